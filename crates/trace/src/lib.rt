@@ -1,0 +1,1 @@
+// The trace's six rules are in specs/.
