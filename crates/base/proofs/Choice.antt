@@ -160,8 +160,8 @@ module _ {A : Type 0} where
   unfolding upd₂
   upd₂-at P f i j v a b y n =
       upd-at (λ (r : ℕ → A). P (r b)) f i (upd (f i) j v) a
-        (λ q. upd-at P (f i) j v b (y q) (λ m. rw q at (n (λ _. m))))
-        (λ m. n (λ q. absurd (m q)))
+      (λ q. upd-at P (f i) j v b (y q) (λ m. rw q at (n (λ _. m))))
+      (λ m. n (λ q. absurd (m q)))
 
   pub upd₂-other : (f : ℕ → ℕ → A) (i j : ℕ) (v : A) (a b : ℕ) → b ≢ j → upd₂ f i j v a b ≡ f a b
   upd₂-other f i j v a b m = upd₂-at (λ (r : A). r ≡ f a b) f i j v a b (λ _ q. absurd (m q)) (λ _. refl)

@@ -99,8 +99,8 @@ pub rising-snoc : (l : Hist) (t : Txn) → Rising l → lastId l < t .id .0 → 
 rising-snoc l t r k i j lt le = ⊎-elim
     (λ (m : j ≤ length l). omega (arith, r i j lt m, id-old l t i (omega arith), id-old l t j m))
     (λ (m : length l < j).
-      let q : j ≡ suc (length l) = omega (arith, length-snoc l t) in
-      rw q (omega (arith, id-new l t, id-old l t i (omega arith), below i (omega arith))))
+    let q : j ≡ suc (length l) = omega (arith, length-snoc l t) in
+    rw q (omega (arith, id-new l t, id-old l t i (omega arith), below i (omega arith))))
     (le-or-lt j (length l))
   where
     below : (n : ℕ) → n ≤ length l → idAt l n ≤ lastId l

@@ -1,3 +1,4 @@
 pub mod Choice
 pub mod Quorum
 pub mod History
+pub mod Good

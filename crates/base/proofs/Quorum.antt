@@ -113,3 +113,22 @@ most-map f m = record { who = m .who; quo = m .quo; each = λ s h. f s (m .each 
 -- two such claims are made of one server
 pub most-meet : {n : ℕ} {P R : ℕ → Type 0} → Most n P → Most n R → (s : ℕ) × P s × R s
 most-meet {n} a b = let r = quorum-meet n (a .who) (b .who) (a .quo) (b .quo) in (r .who, a .each (r .who) (r .one), b .each (r .who) (r .two))
+
+-- ---- sets with one member more or less
+
+pub just-is : (i t : ℕ) → just i t ≡ true → t ≡ i
+unfolding just
+just-is i t = upd-at (λ (b : Bool). b ≡ true → t ≡ i) nobody i true t (λ q _. q) (λ _ e. absurd (false≢true e))
+
+pub just-has : (i : ℕ) → just i i ≡ true
+unfolding just
+just-has i = upd-same nobody i true
+
+pub put-is : (q : Set) (f t : ℕ) → upd q f true t ≡ true → (t ≡ f) ⊎ (q t ≡ true)
+put-is q f t = upd-at (λ (b : Bool). b ≡ true → (t ≡ f) ⊎ (q t ≡ true)) q f true t (λ e _. inl e) (λ _ e. inr e)
+
+pub put-keeps : (q : Set) (f t : ℕ) → q t ≡ true → upd q f true t ≡ true
+put-keeps q f t e = upd-at (λ (b : Bool). b ≡ true) q f true t (λ _. refl) (λ _. e)
+
+pub cut-is : (q : Set) (f t : ℕ) → upd q f false t ≡ true → q t ≡ true
+cut-is q f t = upd-at (λ (b : Bool). b ≡ true → q t ≡ true) q f false t (λ _ e. absurd (false≢true e)) (λ _ e. e)

@@ -13,7 +13,7 @@ abbrev pub entry : Txn → Entry
 entry t = record { ep = epochOf (t .id .0); ct = counterOf (t .id .0); vl = t .val }
 
 pub data Rec : Type 0 where
-  E : (s e : ℕ) → Rec               -- server s enters L4 in epoch e
-  B : (s : ℕ) (t : Entry) → Rec     -- a submission taken at s
-  «V» : (s : ℕ) (t : Entry) → Rec   -- a transaction newly delivered at s
+  E : (s e : ℕ) → Rec  -- server s enters L4 in epoch e
+  B : (s : ℕ) (t : Entry) → Rec  -- a submission taken at s
+  «V» : (s : ℕ) (t : Entry) → Rec  -- a transaction newly delivered at s
   X : (line refusal : ℕ) → Rec

@@ -3,7 +3,9 @@
 
 // Three kinds of number that are never mixed.
 pub struct Epoch(pub u32);
+
 pub struct Place(pub u32);
+
 pub struct Ident(pub u64);
 
 // A transaction: the identifier and then the value.

@@ -4,3 +4,4 @@ pub mod Table
 pub mod Tree
 pub mod Step
 pub mod Cluster
+pub mod Words

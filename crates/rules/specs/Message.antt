@@ -18,7 +18,7 @@ pub data Msg : Type 0 where
   propose : (e k : ℕ) (t : Txn) → Msg
   ack : (e k : ℕ) → Msg
   commit : (e c : ℕ) → Msg
-  junk : Msg                              -- words that are no message
+  junk : Msg  -- words that are no message
 
 -- the kinds, 1 to 9 in the paper's order
 abbrev pub kind : Msg → ℕ

@@ -100,27 +100,27 @@ goodDur z u = both (small (u .p)) (both (leb (u .a) (u .p)) (both (leb (u .d) (l
 unfoldable pub goodEpochs : ℕ → Dur → Bool
 goodEpochs stage u =
     both (either (not (either (during F3 F4 stage) (during L3 L4 stage))) (eqb (u .a) (u .p)))
-      (either (not (either (during F2 F4 stage) (during L2 L4 stage))) (leb 1 (u .p)))
+    (either (not (either (during F2 F4 stage) (during L2 L4 stage))) (leb 1 (u .p)))
 
 -- a follower's oracle is another server, a leader's is itself, LOOK has none
 unfoldable pub goodOracle : Sizes → ℕ → ℕ → ℕ → Bool
 goodOracle z i stage orc =
     both (leb stage L4)
-      (both (either (not (eqb stage LOOK)) (eqb orc 0))
-        (both (either (not (during F1 F4 stage)) (both (leb 1 orc) (both (leb orc (z .n)) (not (eqb orc (i + 1))))))
-          (either (not (during L1 L4 stage)) (eqb orc (i + 1)))))
+    (both (either (not (eqb stage LOOK)) (eqb orc 0))
+    (both (either (not (during F1 F4 stage)) (both (leb 1 orc) (both (leb orc (z .n)) (not (eqb orc (i + 1))))))
+    (either (not (during L1 L4 stage)) (eqb orc (i + 1)))))
 
 -- sets lie inside the servers; a leader's joined holds itself and contains its other sets;
 -- joined lives in L1 to L4, acked-epoch in L2, synced in L3 and L4
 unfoldable pub goodSets : Sizes → ℕ → ℕ → Vol → Bool
 goodSets z i stage v =
     both (inside (v .joined) (λ s. ltb s (z .n)))
-      (both (either (not (during L1 L4 stage)) (v .joined i))
-        (both (inside (v .acked) (v .joined))
-          (both (inside (v .synced) (v .joined))
-            (both (either (during L1 L4 stage) (empty (v .joined)))
-              (both (either (eqb stage L2) (empty (v .acked)))
-                (either (during L3 L4 stage) (empty (v .synced))))))))
+    (both (either (not (during L1 L4 stage)) (v .joined i))
+    (both (inside (v .acked) (v .joined))
+    (both (inside (v .synced) (v .joined))
+    (both (either (during L1 L4 stage) (empty (v .joined)))
+    (both (either (eqb stage L2) (empty (v .acked)))
+    (either (during L3 L4 stage) (empty (v .synced))))))))
 
 -- counts ≤ length, and 0 for servers not below n; they live in L3 and L4
 unfoldable pub goodCounts : Sizes → ℕ → Dur → Vol → Bool
@@ -135,17 +135,17 @@ goodLargest stage u v = both (small (v .largest)) (both (either (not (eqb stage 
 unfoldable pub goodCandidate : Sizes → ℕ → Dur → Vol → Bool
 goodCandidate z stage u v =
     both (either (not (eqb stage L2)) (ltb (v .candA) (u .p)))
-      (both (goodHist (z .room .0) (v .candA) (v .candH))
-        (either (eqb stage L2) (both (eqb (v .candA) 0) (eqb (length (v .candH)) 0))))
+    (both (goodHist (z .room .0) (v .candA) (v .candH))
+    (either (eqb stage L2) (both (eqb (v .candA) 0) (eqb (length (v .candH)) 0))))
 
 -- the record of server i
 unfoldable pub wellFormed : Sizes → ℕ → Server → Bool
 wellFormed z i s =
     both (ltb i (z .n))
-      (both (goodDur z (s .dur))
-        (both (goodEpochs (s .stage) (s .dur))
-          (both (goodOracle z i (s .stage) (s .orc))
-            (both (goodSets z i (s .stage) (s .vol))
-              (both (goodCounts z (s .stage) (s .dur) (s .vol))
-                (both (goodLargest (s .stage) (s .dur) (s .vol))
-                  (goodCandidate z (s .stage) (s .dur) (s .vol))))))))
+    (both (goodDur z (s .dur))
+    (both (goodEpochs (s .stage) (s .dur))
+    (both (goodOracle z i (s .stage) (s .orc))
+    (both (goodSets z i (s .stage) (s .vol))
+    (both (goodCounts z (s .stage) (s .dur) (s .vol))
+    (both (goodLargest (s .stage) (s .dur) (s .vol))
+    (goodCandidate z (s .stage) (s .dur) (s .vol))))))))

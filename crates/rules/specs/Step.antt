@@ -58,8 +58,8 @@ keeps u h t = need (leb (u .d) (length h)) UNDO (need (sameHist (take (u .d) h) 
 unfoldable pub onOracle : Sizes → ℕ → ℕ → Server → Tree
 onOracle z i x s = need (ltb x (z .n)) EVENT
     (fork (eqb x i)
-      (took true (record { dur = s .dur; stage = L1; orc = i + 1; vol = sees (s .dur .p) (joins i idle) }) [])
-      (took true (record { dur = s .dur; stage = F1; orc = x + 1; vol = idle }) (only x (cepoch (s .dur .p)))))
+    (took true (record { dur = s .dur; stage = L1; orc = i + 1; vol = sees (s .dur .p) (joins i idle) }) [])
+    (took true (record { dur = s .dur; stage = F1; orc = x + 1; vol = idle }) (only x (cepoch (s .dur .p)))))
 
 unfoldable pub onRestart : Server → Tree
 onRestart s = took true (record { dur = s .dur; stage = LOOK; orc = 0; vol = idle }) []
@@ -72,10 +72,10 @@ l1Join z i f e s =
     let m = max (s .vol .largest) e in
     let v = joins f (s .vol) in
     fork (quorum (z .n) (v .joined))
-      (need (ltb m LAST) SPENT
-        (took false (moved L2 (promised (m + 1) (s .dur)) (counted (just i) (s .dur .a) (s .dur .hist) (sees 0 v)) s)
-          (toAll (z .n) i (v .joined) (newepoch (m + 1)))))
-      (took false (moved L1 (s .dur) (sees m v) s) [])
+    (need (ltb m LAST) SPENT
+    (took false (moved L2 (promised (m + 1) (s .dur)) (counted (just i) (s .dur .a) (s .dur .hist) (sees 0 v)) s)
+    (toAll (z .n) i (v .joined) (newepoch (m + 1)))))
+    (took false (moved L1 (s .dur) (sees m v) s) [])
 
 unfoldable pub l2Join : ℕ → ℕ → Server → Tree
 l2Join f e s = need (leb e (s .dur .p)) EPOCH
@@ -85,7 +85,7 @@ l2Join f e s = need (leb e (s .dur .p)) EPOCH
 unfoldable pub l34Join : ℕ → ℕ → Server → Tree
 l34Join f e s = need (leb e (s .dur .p)) EPOCH
     (took false (moved (s .stage) (s .dur) (unsynced f (joins f (s .vol))) s)
-      (only f (newepoch (s .dur .p)) ++ only f (newleader (s .dur .p) (s .dur .hist))))
+    (only f (newepoch (s .dur .p)) ++ only f (newleader (s .dur .p) (s .dur .hist))))
 
 unfoldable pub onCepoch : Sizes → ℕ → ℕ → ℕ → Server → Tree
 onCepoch z i f e s = fork (eqb (s .stage) L1) (l1Join z i f e s) (fork (eqb (s .stage) L2) (l2Join f e s) (l34Join f e s))
@@ -100,20 +100,20 @@ beats a x b y = either (ltb b a) (both (eqb a b) (ltb y x))
 unfoldable pub l2Count : Sizes → ℕ → Set → ℕ → Hist → Server → Tree
 l2Count z i q a h s =
     fork (quorum (z .n) q)
-      (keeps (s .dur) h
-        (took false (moved L3 (accepted (s .dur .p) h (s .dur)) (record { joined = s .vol .joined; acked = nobody; synced = just i; largest = s .vol .largest; candA = 0; candH = []; counts = s .vol .counts }) s)
-          (toAll (z .n) i (s .vol .joined) (newleader (s .dur .p) h))))
-      (took false (moved L2 (s .dur) (counted q a h (s .vol)) s) [])
+    (keeps (s .dur) h
+    (took false (moved L3 (accepted (s .dur .p) h (s .dur)) (record { joined = s .vol .joined; acked = nobody; synced = just i; largest = s .vol .largest; candA = 0; candH = []; counts = s .vol .counts }) s)
+    (toAll (z .n) i (s .vol .joined) (newleader (s .dur .p) h))))
+    (took false (moved L2 (s .dur) (counted q a h (s .vol)) s) [])
 
 unfoldable pub onAcke : Sizes → ℕ → ℕ → ℕ → ℕ → Hist → Server → Tree
 onAcke z i f e a h s =
     need (not (both (eqb (s .stage) L2) (s .vol .acked f))) PHASE
-      (need (eqb e (s .dur .p)) EPOCH
-        (fork (eqb (s .stage) L2)
-          (fork (beats a (lastId h) (s .vol .candA) (lastId (s .vol .candH)))
-            (l2Count z i (upd (s .vol .acked) f true) a h s)
-            (l2Count z i (upd (s .vol .acked) f true) (s .vol .candA) (s .vol .candH) s))
-          (took false s [])))
+    (need (eqb e (s .dur .p)) EPOCH
+    (fork (eqb (s .stage) L2)
+    (fork (beats a (lastId h) (s .vol .candA) (lastId (s .vol .candH)))
+    (l2Count z i (upd (s .vol .acked) f true) a h s)
+    (l2Count z i (upd (s .vol .acked) f true) (s .vol .candA) (s .vol .candH) s))
+    (took false s [])))
 
 -- ---- ACK-LD and ACK
 
@@ -133,61 +133,61 @@ unfoldable pub l3Sync : Sizes → ℕ → ℕ → ℕ → Server → Tree
 l3Sync z i f c s =
     let v = syncs f (raises f c (s .vol)) in
     need (eqb c (length (s .dur .hist))) GAP
-      (fork (quorum (z .n) (v .synced))
-        (took false (moved L4 (delivered (length (s .dur .hist)) (s .dur)) v s)
-          (toAll (z .n) i (v .synced) (commitld (s .dur .p) (length (s .dur .hist)))))
-        (took false (moved L3 (s .dur) v s) []))
+    (fork (quorum (z .n) (v .synced))
+    (took false (moved L4 (delivered (length (s .dur .hist)) (s .dur)) v s)
+    (toAll (z .n) i (v .synced) (commitld (s .dur .p) (length (s .dur .hist)))))
+    (took false (moved L3 (s .dur) v s) []))
 
 -- L4, after a count: advance; if d rose, COMMIT to all others of q; then what follows
 unfoldable pub l4Advance : Sizes → ℕ → Vol → Set → (ℕ → List Send) → Server → Tree
 l4Advance z i v q more s =
     let d = advanced (z .n) i v (s .dur) in
     took false (moved L4 (delivered d (s .dur)) v s)
-      (pick (ltb (s .dur .d) d) (toAll (z .n) i q (commit (s .dur .p) d)) [] ++ more d)
+    (pick (ltb (s .dur .d) d) (toAll (z .n) i q (commit (s .dur .p) d)) [] ++ more d)
 
 unfoldable pub onAckld : Sizes → ℕ → ℕ → ℕ → ℕ → Server → Tree
 onAckld z i f e c s =
     need (eqb e (s .dur .p)) EPOCH
-      (fork (eqb (s .stage) L3)
-        (l3Sync z i f c s)
-        (need (leb c (length (s .dur .hist))) GAP
-          (l4Advance z i (syncs f (raises f c (s .vol))) (upd (s .vol .synced) f false) (λ d. only f (commitld (s .dur .p) d)) s)))
+    (fork (eqb (s .stage) L3)
+    (l3Sync z i f c s)
+    (need (leb c (length (s .dur .hist))) GAP
+    (l4Advance z i (syncs f (raises f c (s .vol))) (upd (s .vol .synced) f false) (λ d. only f (commitld (s .dur .p) d)) s)))
 
 unfoldable pub onAck : Sizes → ℕ → ℕ → ℕ → ℕ → Server → Tree
 onAck z i f e k s =
     need (eqb e (s .dur .p)) EPOCH
-      (need (leb k (length (s .dur .hist))) GAP
-        (l4Advance z i (raises f k (s .vol)) (s .vol .synced) (λ _. []) s))
+    (need (leb k (length (s .dur .hist))) GAP
+    (l4Advance z i (raises f k (s .vol)) (s .vol .synced) (λ _. []) s))
 
 -- ---- NEWEPOCH, NEWLEADER, PROPOSE, COMMIT-LD, COMMIT
 
 unfoldable pub onNewepoch : ℕ → ℕ → Server → Tree
 onNewepoch f e s =
     need (leb (s .dur .p) e) EPOCH
-      (fork (eqb e (s .dur .p))
-        (took false (moved F2 (s .dur) (s .vol) s) [])
-        (took false (moved F2 (promised e (s .dur)) (s .vol) s) (only f (acke e (s .dur .a) (s .dur .hist)))))
+    (fork (eqb e (s .dur .p))
+    (took false (moved F2 (s .dur) (s .vol) s) [])
+    (took false (moved F2 (promised e (s .dur)) (s .vol) s) (only f (acke e (s .dur .a) (s .dur .hist)))))
 
 unfoldable pub onNewleader : ℕ → ℕ → Hist → Server → Tree
 onNewleader f e h s =
     need (eqb e (s .dur .p)) EPOCH
-      (keeps (s .dur) h
-        (took false (moved F3 (accepted e h (s .dur)) (s .vol) s) (only f (ackld e (length h)))))
+    (keeps (s .dur) h
+    (took false (moved F3 (accepted e h (s .dur)) (s .vol) s) (only f (ackld e (length h)))))
 
 unfoldable pub onPropose : Sizes → ℕ → ℕ → ℕ → Txn → Server → Tree
 onPropose z f e k t s =
     need (eqb e (s .dur .p)) EPOCH
-      (need (eqb k (length (s .dur .hist) + 1)) GAP
-        (need (eqb (t .id .0) (ident e (nextCounter e (lastId (s .dur .hist))))) GAP
-          (need (ltb (length (s .dur .hist)) (z .room .0)) FULL
-            (took false (moved (s .stage) (appended t (s .dur)) (s .vol) s) (only f (ack e k))))))
+    (need (eqb k (length (s .dur .hist) + 1)) GAP
+    (need (eqb (t .id .0) (ident e (nextCounter e (lastId (s .dur .hist))))) GAP
+    (need (ltb (length (s .dur .hist)) (z .room .0)) FULL
+    (took false (moved (s .stage) (appended t (s .dur)) (s .vol) s) (only f (ack e k))))))
 
 -- COMMIT-LD and COMMIT
 unfoldable pub onCommit : ℕ → ℕ → Server → Tree
 onCommit e c s =
     need (eqb e (s .dur .p)) EPOCH
-      (need (leb c (length (s .dur .hist))) GAP
-        (took false (moved F4 (delivered (max (s .dur .d) c) (s .dur)) (s .vol) s) []))
+    (need (leb c (length (s .dur .hist))) GAP
+    (took false (moved F4 (delivered (max (s .dur .d) c) (s .dur)) (s .vol) s) []))
 
 -- ---- a message, a submission, any event
 
@@ -214,10 +214,10 @@ submission v u = record { id = record { 0 = ident (u .p) (nextCounter (u .p) (la
 unfoldable pub onSubmit : Sizes → ℕ → ℕ → Server → Tree
 onSubmit z i v s =
     need (eqb (s .stage) L4) ROLE
-      (need (ltb (length (s .dur .hist)) (z .room .0)) FULL
-        (need (not (eqb (lastId (s .dur .hist)) (ident (s .dur .p) LAST))) FULL
-          (took false (moved L4 (appended (submission v (s .dur)) (s .dur)) (s .vol) s)
-            (toAll (z .n) i (s .vol .joined) (propose (s .dur .p) (length (s .dur .hist) + 1) (submission v (s .dur)))))))
+    (need (ltb (length (s .dur .hist)) (z .room .0)) FULL
+    (need (not (eqb (lastId (s .dur .hist)) (ident (s .dur .p) LAST))) FULL
+    (took false (moved L4 (appended (submission v (s .dur)) (s .dur)) (s .vol) s)
+    (toAll (z .n) i (s .vol .joined) (propose (s .dur .p) (length (s .dur .hist) + 1) (submission v (s .dur)))))))
 
 -- what may happen at a server
 pub data Input : Type 0 where
