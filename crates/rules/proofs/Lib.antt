@@ -3,5 +3,7 @@ pub mod Trees
 pub mod WellFormed
 pub mod Formed
 pub mod Kept
+pub mod Words
+pub mod Runs
 pub mod Cases
 pub mod Sample

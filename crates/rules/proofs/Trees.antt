@@ -38,6 +38,28 @@ run-leaves P (fork false x y) c = run-leaves P y (c .1 refl)
 run-leaves P (deny r) c = tt
 run-leaves P (took b s out) c = c
 
+-- a refusal that stands nowhere in a tree is not its answer
+abbrev pub Avoids : ℕ → Tree → Type 0
+Avoids k (need b r t) = (r ≢ k) × Avoids k t
+Avoids k (fork b x y) = Avoids k x × Avoids k y
+Avoids k (deny r) = r ≢ k
+Avoids k (took b s out) = Unit {0}
+
+pub run-avoids : (k : ℕ) (t : Tree) → Avoids k t → run t ≢ refused k
+unfolding run
+run-avoids k (need true r t) c = run-avoids k t (c .1)
+run-avoids k (need false r t) c = λ e. c .0 (code e)
+  where
+    code : _≡_ {A = Res} (refused r) (refused k) → r ≡ k
+    code e = cc
+run-avoids k (fork true x y) c = run-avoids k x (c .0)
+run-avoids k (fork false x y) c = run-avoids k y (c .1)
+run-avoids k (deny r) c = λ e. c (code e)
+  where
+    code : _≡_ {A = Res} (refused r) (refused k) → r ≡ k
+    code e = cc
+run-avoids k (took b s out) c = λ e. let z : _≡_ {A = ℕ} 0 1 = cc in omega arith
+
 -- past the gate: the sender will do, and the kind is taken in this stage
 pub gate-leaves : (P : Bool → Server → List Send → Type 0) (k st : ℕ) (who : Bool) (t : Tree) → (who ≡ true → cell k st ≡ TAKEN → Leaves P t) → Leaves P (gate k st who t)
 unfolding gate
