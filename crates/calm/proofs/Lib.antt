@@ -1,0 +1,17 @@
+pub mod Laws
+pub mod Effect
+pub mod Engine
+pub mod Play
+pub mod Spread
+pub mod Rounds
+pub mod Points
+pub mod Raises
+pub mod Answers
+pub mod Moves
+pub mod Naming
+pub mod Recover
+pub mod Entry
+pub mod Submit
+pub mod Theorem
+pub mod ItMoves
+pub mod Cases
