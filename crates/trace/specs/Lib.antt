@@ -1,1 +1,6 @@
 pub mod Rules
+pub mod Fold
+pub mod Held
+pub mod Words
+pub mod Meaning
+pub mod Step

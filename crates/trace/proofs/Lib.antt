@@ -1,0 +1,15 @@
+pub mod Base
+pub mod Exact
+pub mod Five
+pub mod Four
+pub mod Seqs
+pub mod Main
+pub mod Says
+pub mod Whole
+pub mod Paper
+pub mod Trap
+pub mod Leaf
+pub mod Records
+pub mod Ruling
+pub mod Laws
+pub mod Walk

@@ -1,0 +1,66 @@
+-- What the state and the space stand for, before a record and after it.
+use Prim.Native.Nat.{ℕ, suc, _+_, _-_, _≤_, _<_}
+use mathlib.Core.Path.{_≡_}
+use mathlib.Core.Bool.{Bool, true, false}
+use mathlib.Core.List.{List, _∷_, map}
+use lib.Dec.{eqb, leb, ltb}
+use lib.ListN.{length, take, getD, set}
+use Rattle.base.specs.Choice.{pick, either}
+use Rattle.trace.specs.Rules.{Past, same, less, anyE, anyB, broken, sound}
+use Rattle.trace.specs.Fold.{mem, stOf}
+use Rattle.trace.specs.Held.{Inv}
+use Rattle.trace.specs.Words.{Within, kindOf, whoOf, counterAt, entryAt, recAt, pastAt, grown, laid}
+use Rattle.trace.specs.declared.step.State.{State}
+use Rattle.trace.specs.declared.step.Told.{Told}
+
+-- the sizes, before record i
+pub record Ready (w sp : List ℕ) (i : ℕ) (s : State) : Type 0 where
+  pub here : Within w i
+  pub room : i < length sp
+  pub len : s .len ≤ i
+  pub marks : (k : ℕ) → k < s .len → getD sp k 0 < i
+  pub counts : (x : ℕ) → x < 7 → getD (s .counts) x 0 ≤ s .len
+  pub seen : s .seen ≤ i
+  pub who : (kindOf w i ≡ 4 → ⊥) → whoOf w i < 7
+  pub ct : kindOf w i ≡ 2 → 1 ≤ counterAt w i
+
+-- the trace before record i, p, breaks no rule, and the state and the space tell of it
+pub record Holds (n : ℕ) (p : Past) (sp : List ℕ) (i : ℕ) (s : State) : Type 0 where
+  pub inv : Inv n p
+  pub laid : take (s .len) sp ≡ grown p
+  pub len : s .len ≡ length (grown p)
+  pub size : length (s .counts) ≡ 7
+  pub cnt : (x : ℕ) → x < 7 → getD (s .counts) x 0 ≡ stOf p .cnt x
+  pub top : s .top ≡ stOf p .top
+  pub high : (e : ℕ) → anyE e p ≡ true → e ≤ s .high
+  pub seen : s .seen ≤ i
+
+-- the rule that record i breaks; where it breaks none, what holds before the next
+pub record Stepped (n : ℕ) (w sp : List ℕ) (i : ℕ) (r : Told) (sp′ : List ℕ) : Type 0 where
+  pub rule : r .rule ≡ broken n (recAt w i ∷ pastAt w i)
+  pub goes : r .rule ≡ 0 → Holds n (recAt w i ∷ pastAt w i) sp′ (suc i) (r .state)
+  pub space : r .rule ≡ 0 → sp′ ≡ laid (grown (recAt w i ∷ pastAt w i)) sp
+  pub stays : (r .rule ≡ 0 → ⊥) → sp′ ≡ sp
+
+-- what is promised of a record, whatever the number of servers
+abbrev pub Steps : List ℕ → List ℕ → ℕ → State → Told → List ℕ → Type 0
+Steps w sp i s r sp′ = (n : ℕ) → Holds n (pastAt w i) sp i s → sound n (recAt w i) ≡ true → Stepped n w sp i r sp′
+
+-- r is a B before record i of its transaction, or i if there is none
+pub record Source (w : List ℕ) (i r : ℕ) : Type 0 where
+  pub low : r ≤ i
+  pub is : ltb r i ≡ anyB (entryAt w i) (pastAt w i)
+
+-- a V inside the longest, whose next transaction is that of record `at`
+unfoldable pub insideOf : List ℕ → ℕ → ℕ → ℕ → State → Told
+insideOf w at i x s =
+    pick (same (entryAt w i) (entryAt w at))
+    (record { rule = 0; state = record { counts = set (s .counts) x (getD (s .counts) x 0 + 1); len = s .len; top = s .top; high = s .high; seen = s .seen } })
+    (record { rule = pick (anyB (entryAt w i) (pastAt w i)) 4 3; state = s })
+
+-- rules 5 and 6 at a V that makes the longest longer
+unfoldable pub lateOf : List ℕ → List ℕ → ℕ → ℕ → ℕ → ℕ
+lateOf w sp i len top =
+    pick (pick (eqb len 0) true (less (entryAt w (getD sp (len - 1) 0)) (entryAt w i)))
+    (pick (leb top (entryAt w i .ep)) 0 5)
+    (pick (either (leb top (entryAt w i .ep)) (mem (entryAt w i) (map (entryAt w) (take len sp)))) 6 5)

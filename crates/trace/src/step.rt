@@ -1,0 +1,206 @@
+// One record against the trace before it, which breaks no rule.
+use crate::look;
+use crate::words;
+ghost use mathlib.Core.Path.{_≡_};
+ghost use mathlib.Core.List.{List, map};
+ghost use mathlib.Core.Bool.{true};
+ghost use Prim.Native.Nat.{ℕ, _+_, _-_, _*_, _^_, _≤_, _<_};
+ghost use lib.Dec.{eqb, ltb};
+ghost use lib.ListN.{length, take, getD};
+ghost use Rattle.base.specs.Choice.{pick, both};
+ghost use Rattle.trace.specs.Rules.{less, rule1, rule2, hasE, countB};
+ghost use Rattle.trace.specs.Words.{WORDS, Within, kindOf, whoOf, epochAt, counterAt, entryAt, pastAt};
+ghost use Rattle.trace.specs.Step.{Ready, Steps, lateOf, insideOf};
+
+// What is kept of the trace so far, beside the space, which has the numbers of the records at which the longest delivered
+// sequence grew: all servers' sequences begin it. `counts` is how many transactions each server delivered, `len` the length of
+// the longest, `top` the greatest epoch of a B; no E has an epoch above `high`. `seen` says from where to look for the B of the
+// next new transaction: it lies behind the last one's, unless a rule is broken.
+pub struct State {
+    pub counts: [usize; 7],
+    pub len: usize,
+    pub top: u64,
+    pub high: u64,
+    pub seen: usize,
+}
+
+// The lowest rule that the record breaks, 0 if it breaks none; and then the state after it.
+pub struct Told {
+    pub rule: u8,
+    pub state: State,
+}
+
+// An E: rule 1.
+fn at_e(recs: &[u64], i: usize, s: State) -> Told
+    requires { ⌜ Within (now recs) i × (kindOf (now recs) i ≡ 1) ⌝ }
+    ensures { λ r. ⌜ ((sp : List ℕ) → Steps (now (recs .entry)) sp i s r sp) ⌝ }
+{
+    let e = words::epoch(recs, i);
+    if s.high < e {
+        let mut t = s;
+        t.high = e;
+        return Told { rule: 0, state: t };
+    }
+    if look::latest(recs, i, e) == 0 {
+        return Told { rule: 0, state: s };
+    }
+    Told { rule: 1, state: s }
+}
+
+// Rule 2 at a B: the latest record of its epoch is the E of its server, or a B of it with the counter before.
+fn follows(recs: &[u64], i: usize) -> bool
+    requires { ⌜ Within (now recs) i × (1 ≤ counterAt (now recs) i) ⌝ }
+    ensures { λ r. ⌜ (rule1 (pastAt (now (recs .entry)) i) ≡ true → rule2 (pastAt (now (recs .entry)) i) ≡ true
+        → r ≡ both (hasE (whoOf (now (recs .entry)) i) (epochAt (now (recs .entry)) i) (pastAt (now (recs .entry)) i)) (eqb (counterAt (now (recs .entry)) i) (countB (epochAt (now (recs .entry)) i) (pastAt (now (recs .entry)) i) + 1))) ⌝ }
+{
+    let k = look::latest(recs, i, words::epoch(recs, i));
+    if k == 0 {
+        return false;
+    }
+    let j = k - 1;
+    if words::server(recs, j) != words::server(recs, i) {
+        return false;
+    }
+    let c = words::counter(recs, i) - 1;
+    if words::kind(recs, j) == 1 {
+        return c == 0;
+    }
+    words::counter(recs, j) == c
+}
+
+// Rule 5 at a B of a server that delivered c: is the next transaction of the longest, which it lacks, of an earlier epoch?
+fn lacks(recs: &[u64], space: &[u64], i: usize, c: usize, len: usize) -> bool
+    requires { ⌜ Within (now recs) i × (len ≤ length (now space)) × ((k : ℕ) → k < len → getD (now space) k 0 < i) ⌝ }
+    ensures { λ r. ⌜ r ≡ both (ltb c len) (ltb (epochAt (now (recs .entry)) (getD (now (space .entry)) c 0)) (epochAt (now (recs .entry)) i)) ⌝ }
+{
+    if len <= c {
+        return false;
+    }
+    let at = space[c] as usize;
+    words::epoch(recs, at) < words::epoch(recs, i)
+}
+
+// A B: rules 2 and 5.
+fn at_b(recs: &[u64], space: &[u64], i: usize, s: State) -> Told
+    requires { ⌜ Ready (now recs) (now space) i s × (kindOf (now recs) i ≡ 2) ⌝ }
+    ensures { λ r. ⌜ Steps (now (recs .entry)) (now (space .entry)) i s r (now (space .entry)) ⌝ }
+{
+    if !follows(recs, i) {
+        return Told { rule: 2, state: s };
+    }
+    let x = words::server(recs, i) as usize;
+    if lacks(recs, space, i, s.counts[x], s.len) {
+        return Told { rule: 5, state: s };
+    }
+    let e = words::epoch(recs, i);
+    if e < s.top {
+        return Told { rule: 0, state: s };
+    }
+    let mut t = s;
+    t.top = e;
+    Told { rule: 0, state: t }
+}
+
+// A V of server x, which delivered c, where the longest goes on with the transaction of record `at`: rules 3 and 4.
+fn inside(recs: &[u64], at: usize, i: usize, x: usize, s: State) -> Told
+    requires { ⌜ Within (now recs) i × (at < i) × (x < 7) × (getD (s .counts) x 0 < i) × (s .seen ≤ i) ⌝ }
+    ensures { λ r. ⌜ r ≡ insideOf (now (recs .entry)) at i x s ⌝ }
+{
+    if words::same(recs, i, at) {
+        let mut t = s;
+        t.counts[x] = s.counts[x] + 1;
+        return Told { rule: 0, state: t };
+    }
+    if look::source(recs, i, s.seen) < i {
+        return Told { rule: 4, state: s };
+    }
+    Told { rule: 3, state: s }
+}
+
+// Is record i above the last of the longest?
+fn rises(recs: &[u64], space: &[u64], i: usize, len: usize) -> bool
+    requires { ⌜ Within (now recs) i × (len ≤ length (now space)) × ((k : ℕ) → k < len → getD (now space) k 0 < i) ⌝ }
+    ensures { λ r. ⌜ r ≡ pick (eqb len 0) true (less (entryAt (now (recs .entry)) (getD (now (space .entry)) (len - 1) 0)) (entryAt (now (recs .entry)) i)) ⌝ }
+{
+    if len == 0 {
+        return true;
+    }
+    let at = space[len - 1] as usize;
+    words::below(recs, at, i)
+}
+
+// Rules 5 and 6 at a V that makes the longest longer. If a B is of a later epoch, rule 5 is broken, unless rule 6 is and the
+// longest has the transaction already. That is looked for at most once, since the record breaks a rule.
+fn late(recs: &[u64], space: &[u64], i: usize, len: usize, top: u64) -> u8
+    requires { ⌜ Within (now recs) i × (len ≤ length (now space)) × ((k : ℕ) → k < len → getD (now space) k 0 < i) ⌝ }
+    ensures { λ r. ⌜ r ≡ lateOf (now (recs .entry)) (now (space .entry)) i len top ⌝ }
+{
+    let e = words::epoch(recs, i);
+    if rises(recs, space, i, len) {
+        if e < top {
+            return 5;
+        }
+        return 0;
+    }
+    if top <= e {
+        return 6;
+    }
+    if look::among(recs, space, len, i) {
+        return 6;
+    }
+    5
+}
+
+// A V of server x that makes the longest longer: rules 3, 5 and 6.
+fn longer(recs: &[u64], space: &mut [u64], i: usize, x: usize, s: State) -> Told
+    requires { ⌜ Ready (now recs) (now space) i s × (kindOf (now recs) i ≡ 3) × (x ≡ whoOf (now recs) i) × (x < 7) × (s .len ≤ getD (s .counts) x 0) ⌝ }
+    ensures { λ r. ⌜ Steps (now (recs .entry)) (now (space .entry)) i s r (now (space .exit)) ⌝ }
+{
+    let k = look::source(recs, i, s.seen);
+    if k == i {
+        return Told { rule: 3, state: s };
+    }
+    let len = s.len;
+    let rule = late(recs, space, i, len, s.top);
+    if rule != 0 {
+        return Told { rule, state: s };
+    }
+    space[len] = i as u64;
+    let mut t = s;
+    t.counts[x] = s.counts[x] + 1;
+    t.len = len + 1;
+    t.seen = k;
+    Told { rule: 0, state: t }
+}
+
+// A V: rules 3 to 6.
+fn at_v(recs: &[u64], space: &mut [u64], i: usize, s: State) -> Told
+    requires { ⌜ Ready (now recs) (now space) i s × (kindOf (now recs) i ≡ 3) ⌝ }
+    ensures { λ r. ⌜ Steps (now (recs .entry)) (now (space .entry)) i s r (now (space .exit)) ⌝ }
+{
+    let x = words::server(recs, i) as usize;
+    let c = s.counts[x];
+    if c < s.len {
+        let at = space[c] as usize;
+        return inside(recs, at, i, x, s);
+    }
+    longer(recs, space, i, x, s)
+}
+
+// Record i.
+pub fn step(recs: &[u64], space: &mut [u64], i: usize, s: State) -> Told
+    requires { ⌜ Ready (now recs) (now space) i s ⌝ }
+    ensures { λ r. ⌜ Steps (now (recs .entry)) (now (space .entry)) i s r (now (space .exit)) ⌝ }
+{
+    let k = words::kind(recs, i);
+    if k == 1 {
+        return at_e(recs, i, s);
+    }
+    if k == 2 {
+        return at_b(recs, space, i, s);
+    }
+    if k == 3 {
+        return at_v(recs, space, i, s);
+    }
+    Told { rule: 0, state: s }
+}
