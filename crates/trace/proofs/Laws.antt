@@ -1,5 +1,5 @@
 -- One law for each answer of a record's step.
-use Prim.Native.Nat.{ℕ, zero, suc, _+_, _-_, _*_, _≤_, _<_}
+use Prim.Native.Nat.{ℕ, zero, suc, _+_, _-_, _≤_, _<_}
 use mathlib.Core.Path.{_≡_, refl, sym, ap, _∙_, subst}
 use mathlib.Core.Logic.{⊎-elim}
 use mathlib.Core.Bool.{Bool, true, false, not}
@@ -8,13 +8,13 @@ use native.Mathlib.Omega.{arith}
 use lib.Dec.{eqb, leb, ltb}
 use lib.ListN.{length, take, drop, getD, set, length-append, length-map, length-set, take-append-drop}
 use lib.Seq.{getD-take, getD-set-same, getD-set-other, take-suc-set, set-split}
-use borrow.Author.Tests.{eqb-true, eqb-false, eq-eqb, ne-eqb, le-leb, lt-leb, lt-ltb, le-ltb, leb-true}
+use borrow.Author.Tests.{eqb-false, eq-eqb, ne-eqb, le-leb, lt-leb, lt-ltb, le-ltb, leb-true}
 use Rattle.base.specs.Choice.{pick, both, either, upd}
 use Rattle.base.specs.Record.{Entry, Rec, E, B, «V», X}
-use Rattle.base.proofs.Choice.{tests, case, clash, eq-cases, both-true, either-true, either-right}
-use Rattle.trace.specs.Rules.{Past, same, less, anyE, rule1, rule2, hasE, countB, anyB, vs, lowest, broken, sound}
+use Rattle.base.proofs.Choice.{tests, case, clash, eq-cases, both-true, either-true}
+use Rattle.trace.specs.Rules.{same, less, anyE, rule1, rule2, hasE, countB, anyB, vs, lowest, broken, sound}
 use Rattle.trace.specs.Fold.{none, mem, stOf}
-use Rattle.trace.specs.Held.{anyV, Seqs, Inv}
+use Rattle.trace.specs.Held.{anyV}
 use Rattle.trace.specs.Words.{kindOf, whoOf, epochAt, counterAt, entryAt, recAt, pastAt, grown, laid, latestOf}
 use Rattle.trace.specs.Step.{Holds, Stepped, Source, insideOf, lateOf}
 use Rattle.trace.specs.declared.step.State.{State}

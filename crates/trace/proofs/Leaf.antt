@@ -1,19 +1,16 @@
 -- One law for each answer of the functions that read records and look back.
 use Prim.Native.Nat.{ℕ, zero, suc, _+_, _-_, _*_, _≤_, _<_}
-use mathlib.Core.Path.{_≡_, refl, sym, ap, _∙_, subst}
-use mathlib.Core.Bool.{Bool, true, false, not}
-use mathlib.Core.List.{List, [], _∷_, _++_, map}
+use mathlib.Core.Path.{_≡_, sym, ap, _∙_, subst}
+use mathlib.Core.Bool.{Bool, true, false}
+use mathlib.Core.List.{List}
 use native.Mathlib.Omega.{arith}
-use lib.Dec.{eqb, leb, ltb}
-use lib.ListN.{length, take, getD}
-use borrow.Author.Tests.{eq-eqb, ne-eqb, le-leb, lt-leb, lt-ltb, le-ltb, ltb-true, ltb-false}
+use lib.Dec.{eqb, ltb}
+use lib.ListN.{length, getD}
+use borrow.Author.Tests.{eq-eqb, ne-eqb, lt-ltb, le-ltb}
 use Rattle.base.specs.Choice.{pick, both, either}
-use Rattle.base.specs.Record.{Entry, Rec, E, B, «V», X}
-use Rattle.base.proofs.Choice.{tests, case, clash, either-right, either-false}
-use Rattle.trace.specs.Rules.{Past, same, less, anyB, sound, allSound}
-use Rattle.trace.specs.Fold.{mem}
-use Rattle.trace.specs.Words.{kindOf, whoOf, epochAt, counterAt, entryAt, recAt, recsFrom, pastAt, knownAt, allKnown, ofEpoch, latestOf, submits, seekOf}
-use Rattle.trace.specs.Step.{Source, lateOf}
+use Rattle.base.specs.Record.{Entry}
+use Rattle.trace.specs.Rules.{same, less}
+use Rattle.trace.specs.Words.{Within, kindOf, epochAt, entryAt, ofEpoch, latestOf, submits, seekOf}
 
 -- ---- transactions compared
 
@@ -105,7 +102,7 @@ module _ (w : List ℕ) (i : ℕ) {x : ℕ} where
 
 -- ---- records that the space names
 
-pub mark-within : (w sp : List ℕ) (i k len : ℕ) → 5 * i + 4 < length w → ((j : ℕ) → j < len → getD sp j 0 < i) → k < len → 5 * getD sp k 0 + 4 < length w
+pub mark-within : (w sp : List ℕ) (i k len : ℕ) → Within w i → ((j : ℕ) → j < len → getD sp j 0 < i) → k < len → Within w (getD sp k 0)
 mark-within w sp i k len h m l = omega (arith, m k l)
 
 latest-low : (w : List ℕ) (e i : ℕ) → latestOf w e i ≤ i
@@ -117,5 +114,5 @@ latest-low w e (suc i) = go (latest-low w e i) (ofEpoch w i e)
     go ih true = omega arith
     go ih false = omega arith
 
-pub latest-within : (w : List ℕ) (e i m : ℕ) → m ≡ latestOf w e i → (m ≡ 0 → ⊥) → 5 * i + 4 < length w → 5 * (m - 1) + 4 < length w
+pub latest-within : (w : List ℕ) (e i m : ℕ) → m ≡ latestOf w e i → (m ≡ 0 → ⊥) → Within w i → Within w (m - 1)
 latest-within w e i m q n h = omega (arith, latest-low w e i)

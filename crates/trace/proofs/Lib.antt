@@ -13,3 +13,5 @@ pub mod Records
 pub mod Ruling
 pub mod Laws
 pub mod Walk
+pub mod Only
+pub mod Examples

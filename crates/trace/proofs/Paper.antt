@@ -1,48 +1,30 @@
 -- Rules 1, 2, 3 and 6 as the paper says them of a whole trace.
-use Prim.Native.Nat.{ℕ, zero, suc, _+_, _≤_, _<_}
-use mathlib.Core.Path.{_≡_, refl, sym, ap, _∙_, subst}
-use mathlib.Core.Logic.{_≢_}
-use mathlib.Core.Bool.{Bool, true, false, not}
+use Prim.Native.Nat.{ℕ, suc, _<_}
+use mathlib.Core.Path.{_≡_, refl, sym, ap, subst}
+use mathlib.Core.Bool.{Bool, true, false}
 use mathlib.Core.List.{List, [], _∷_, _++_, append-nil}
 use native.Mathlib.Omega.{arith}
-use lib.Dec.{eqb, leb, ltb}
-use lib.ListN.{length, take, drop, getD, length-append, List·getD-append}
-use lib.Seq.{take-suc, take-append-le, take-all, getD-at}
-use borrow.Author.Tests.{eqb-true, eqb-false, leb-true, leb-false, ltb-true, ltb-false, eq-eqb, ne-eqb, le-leb, lt-leb, lt-ltb, le-ltb}
-use Rattle.base.specs.Choice.{pick, both, either, upd, allBelow}
+use lib.Dec.{eqb}
+use lib.ListN.{length, getD}
+use borrow.Author.Tests.{eqb-true}
+use Rattle.base.specs.Choice.{pick, both}
 use Rattle.base.specs.Record.{Entry, Rec, E, B, «V», X}
-use Rattle.base.proofs.Choice.{tests, passes, case, clash, eq-cases, both-true, both-yes, both-no, either-right, either-false, not-is, all-of}
-use Rattle.trace.specs.Rules.{Past, same, less, each, anyE, new1, rule1, hasE, countB, new2, rule2, anyB, new3, rule3, vs, begins, rule4, hasV, had, eachV, eachB, rule5, lastV, new6, rule6, lowest, broken, sound, allSound, Answer, keeps, breaks, refuses, walk, fit, answer}
-use Rattle.trace.specs.Fold.{none, mem, St, start, next, t1, t2, t3, t4, t5, t6, test, fast, check, stOf}
-use Rattle.trace.specs.Held.{anyV, Full, Seqs, Kept, Inv}
-use Rattle.trace.proofs.Base.{either-comm, same-true, same-self, same-comm, less-self, Less, less-true, less-yes, less-trans, less-differs, vs-V}
+use Rattle.base.proofs.Choice.{tests, case, both-true, both-yes}
+use Rattle.trace.specs.Rules.{Past, less, each, vs, lastV, new6}
+use Rattle.trace.specs.Fold.{none}
+use Rattle.trace.proofs.Base.{snoc, old-at, new-at}
 
 -- every record, with the records before it, keeps f
 pub each-of : (f : Rec → Past → Bool) (later : Past) (r : Rec) (p : Past) → each f (later ++ (r ∷ p)) ≡ true → f r p ≡ true
-unfolding both either pick upd allBelow
 each-of f [] r p h = both-true (f r p) _ h .0
 each-of f (x ∷ q) r p h = each-of f q r p (both-true (f x (q ++ (r ∷ p))) _ h .1)
 
 pub of-each : (f : Rec → Past → Bool) (all : Past) → ((later : Past) (r : Rec) (p : Past) → all ≡ later ++ (r ∷ p) → f r p ≡ true) → each f all ≡ true
-unfolding both either pick upd allBelow
 of-each f [] h = refl
 of-each f (r ∷ p) h = both-yes (f r p) _ (h [] r p refl) (of-each f p (λ q x y e. h (r ∷ q) x y (ap (λ (z : Past). r ∷ z) e)))
 
-module _ (l : List Entry) (t : Entry) where
-  snoc : length (l ++ (t ∷ [])) ≡ suc (length l)
-  unfolding both either pick upd allBelow
-  snoc = rw (length-append l (t ∷ [])) (omega arith)
-
-  old-at : (i : ℕ) → i < length l → getD (l ++ (t ∷ [])) i none ≡ getD l i none
-  unfolding both either pick upd allBelow
-  old-at i h = List·getD-append l (t ∷ []) none i h
-
-  new-at : (i : ℕ) → i ≡ length l → getD (l ++ (t ∷ [])) i none ≡ t
-  unfolding both either pick upd allBelow
-  new-at i e = getD-at l t [] none i (sym e)
-
 pub last-at : (p : Past) (s k : ℕ) → length (vs s p) ≡ suc k → lastV s p ≡ getD (vs s p) k none
-unfolding both either pick upd allBelow
+unfolding pick
 last-at [] s k h = absurd (omega arith)
 last-at (E s′ e ∷ p) s k h = last-at p s k h
 last-at (B s′ t ∷ p) s k h = last-at p s k h
@@ -58,7 +40,7 @@ Rising l = (k : ℕ) → suc k < length l → less (getD l k none) (getD l (suc 
 
 -- one server's V identifiers rise
 pub six-rises : (p : Past) (s : ℕ) → each new6 p ≡ true → Rising (vs s p)
-unfolding both either pick upd allBelow
+unfolding both pick
 six-rises [] s h k g = absurd (omega arith)
 six-rises (E s′ e ∷ p) s h k g = six-rises p s h k g
 six-rises (B s′ t ∷ p) s h k g = six-rises p s h k g

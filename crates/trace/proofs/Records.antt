@@ -1,16 +1,16 @@
 -- Records read from words: their kinds, whether they are sound, and the B of a transaction.
-use Prim.Native.Nat.{ℕ, zero, suc, _+_, _-_, _*_, _≤_, _<_}
+use Prim.Native.Nat.{ℕ, zero, suc, _+_, _-_, _≤_, _<_}
 use mathlib.Core.Path.{_≡_, refl, sym, ap, _∙_, subst}
 use mathlib.Core.Bool.{Bool, true, false, not}
-use mathlib.Core.List.{List, [], _∷_, _++_, map, map-append}
+use mathlib.Core.List.{List, [], _∷_, map, map-append}
 use native.Mathlib.Omega.{arith}
 use lib.Dec.{eqb, leb, ltb}
 use lib.ListN.{length, take, getD}
 use lib.Seq.{take-suc}
-use borrow.Author.Tests.{eqb-true, eqb-false, eq-eqb, ne-eqb, le-leb, lt-leb, lt-ltb, le-ltb, ltb-true, ltb-false}
+use borrow.Author.Tests.{eqb-true, eqb-false, eq-eqb, ne-eqb, le-leb, lt-leb, lt-ltb, le-ltb, ltb-true}
 use Rattle.base.specs.Choice.{pick, both, either}
 use Rattle.base.specs.Record.{Entry, Rec, E, B, «V», X}
-use Rattle.base.proofs.Choice.{tests, case, clash, either-left, either-right, either-false}
+use Rattle.base.proofs.Choice.{tests, case, either-left, either-right}
 use Rattle.trace.specs.Rules.{Past, same, less, anyB, sound, allSound}
 use Rattle.trace.specs.Fold.{mem}
 use Rattle.trace.specs.Words.{kindOf, whoOf, epochAt, counterAt, entryAt, recAt, recsFrom, pastAt, knownAt, allKnown, submits, seekOf}

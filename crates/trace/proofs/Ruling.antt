@@ -1,22 +1,22 @@
 -- What one more record breaks, while the trace so far breaks nothing; and the latest record of an epoch.
-use Prim.Native.Nat.{ℕ, zero, suc, _+_, _-_, _*_, _≤_, _<_}
+use Prim.Native.Nat.{ℕ, zero, suc, _+_, _≤_, _<_}
 use mathlib.Core.Path.{_≡_, refl, sym, ap, _∙_, subst}
 use mathlib.Core.Bool.{Bool, true, false, not}
 use mathlib.Core.List.{List, [], _∷_, _++_, map, map-append, append-nil}
 use native.Mathlib.Omega.{arith}
 use lib.Dec.{eqb, leb, ltb}
-use lib.ListN.{length, take, getD, length-append, length-map, List·getD-append}
+use lib.ListN.{length, getD, length-append, length-map, List·getD-append}
 use lib.Seq.{getD-at}
-use borrow.Author.Tests.{eqb-true, eqb-false, eq-eqb, ne-eqb, le-leb, lt-leb, lt-ltb, le-ltb, leb-true}
+use borrow.Author.Tests.{eqb-true, eqb-false, eq-eqb, ne-eqb, lt-ltb}
 use Rattle.base.specs.Choice.{pick, both, either, upd}
 use Rattle.base.specs.Record.{Entry, Rec, E, B, «V», X}
-use Rattle.base.proofs.Choice.{tests, case, clash, eq-cases, both-true, either-true, either-false, either-right, not-is}
-use Rattle.trace.specs.Rules.{Past, same, less, each, anyE, new1, rule1, hasE, countB, new2, rule2, anyB, new3, rule3, vs, lastV, lowest, broken, sound}
-use Rattle.trace.specs.Fold.{none, mem, St, stOf, test}
-use Rattle.trace.specs.Held.{anyV, Seqs, Kept, Inv}
-use Rattle.trace.specs.Words.{kindOf, whoOf, epochAt, counterAt, entryAt, recAt, pastAt, grown, ofEpoch, latestOf}
-use Rattle.trace.proofs.Base.{same-true, vs-V}
-use Rattle.trace.proofs.Exact.{nxt-is, last-is, bs-is, own-any, own-is, has-any, suc-eqb}
+use Rattle.base.proofs.Choice.{tests, case, clash, eq-cases, both-true, either-false, either-right, not-is}
+use Rattle.trace.specs.Rules.{Past, same, less, anyE, rule1, hasE, countB, rule2, anyB, rule3, vs, lastV, lowest, broken, sound}
+use Rattle.trace.specs.Fold.{none, mem, stOf, test}
+use Rattle.trace.specs.Held.{anyV, Inv}
+use Rattle.trace.specs.Words.{kindOf, whoOf, epochAt, counterAt, entryAt, pastAt, grown, ofEpoch, latestOf}
+use Rattle.trace.proofs.Base.{same-true, or-false}
+use Rattle.trace.proofs.Exact.{nxt-is, bs-is, own-any, own-is, has-any, suc-eqb}
 use Rattle.trace.proofs.Main.{step-same}
 use Rattle.trace.proofs.Records.{by-kind}
 
@@ -70,19 +70,16 @@ grown-is w zero = refl
 grown-is w (suc i) = by-kind w i (λ r. map (entryAt w) (grown (r ∷ pastAt w i)) ≡ stOf (r ∷ pastAt w i) .seq)
     (λ _. grown-is w i) (λ _. grown-is w i) (λ _. go (grown-is w i)) (λ _ _ _. grown-is w i)
   where
-    p : Past
-    p = pastAt w i
-
-    pub-go : (b c : Bool) → b ≡ c → map (entryAt w) (grown (pastAt w i)) ≡ stOf (pastAt w i) .seq
+    both-ways : (b c : Bool) → b ≡ c → map (entryAt w) (grown (pastAt w i)) ≡ stOf (pastAt w i) .seq
         → map (entryAt w) (pick b (grown (pastAt w i) ++ (length (pastAt w i) ∷ [])) (grown (pastAt w i))) ≡ pick c (stOf (pastAt w i) .seq ++ (entryAt w i ∷ [])) (stOf (pastAt w i) .seq)
-    pub-go true true e ih = map-append (entryAt w) (grown (pastAt w i)) (length (pastAt w i) ∷ []) ∙ rw (ih, past-length w i)
-    pub-go false false e ih = ih
-    pub-go true false e ih = clash refl e
-    pub-go false true e ih = clash refl (sym e)
+    both-ways true true e ih = map-append (entryAt w) (grown (pastAt w i)) (length (pastAt w i) ∷ []) ∙ rw (ih, past-length w i)
+    both-ways false false e ih = ih
+    both-ways true false e ih = clash refl e
+    both-ways false true e ih = clash refl (sym e)
 
     go : map (entryAt w) (grown (pastAt w i)) ≡ stOf (pastAt w i) .seq
         → map (entryAt w) (grown («V» (whoOf w i) (entryAt w i) ∷ pastAt w i)) ≡ stOf («V» (whoOf w i) (entryAt w i) ∷ pastAt w i) .seq
-    go ih = pub-go (leb (length (grown (pastAt w i))) (length (vs (whoOf w i) (pastAt w i)))) (leb (length (stOf (pastAt w i) .seq)) (stOf (pastAt w i) .cnt (whoOf w i)))
+    go ih = both-ways (leb (length (grown (pastAt w i))) (length (vs (whoOf w i) (pastAt w i)))) (leb (length (stOf (pastAt w i) .seq)) (stOf (pastAt w i) .cnt (whoOf w i)))
         (rw (← ih, length-map (grown (pastAt w i)) (entryAt w), cnt-is (pastAt w i) (whoOf w i))) ih
 
 pub delivered-submitted : (p : Past) (t : Entry) → rule3 p ≡ true → anyV t p ≡ true → anyB t p ≡ true
@@ -112,9 +109,6 @@ unfolding less either
 less-none t h = rw (lt-ltb 0 (t .ep) (omega arith))
 
 -- ---- the latest record of an epoch
-
-has-none : (p : Past) (s e : ℕ) → anyE e p ≡ false → hasE s e p ≡ false
-has-none = has-any
 
 no-b : (p : Past) (e : ℕ) → rule2 p ≡ true → anyE e p ≡ false → countB e p ≡ 0
 unfolding both either pick
@@ -196,10 +190,6 @@ near w e (suc i) a b = by-kind w i
     rw (ne-eqb (kindOf w i) 1 n1, ne-eqb (kindOf w i) 2 n2) (skip w e i («V» (whoOf w i) (entryAt w i)) (latestOf w e i) refl (λ s. refl) refl (near w e i a b)))
     (λ n1 n2 n3 a b. rw (ne-eqb (kindOf w i) 1 n1, ne-eqb (kindOf w i) 2 n2) (skip w e i (X (whoOf w i) (epochAt w i)) (latestOf w e i) refl (λ s. refl) refl (near w e i a b)))
     a b
-  where
-    or-false : (v : Bool) → either v false ≡ v
-    or-false true = refl
-    or-false false = refl
 
 -- ---- the record's rule
 

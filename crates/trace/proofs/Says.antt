@@ -1,20 +1,15 @@
 -- The walk's answer is the first record at which the trace so far breaks a rule, with the lowest such rule.
 use Prim.Native.Nat.{ℕ, zero, suc, _+_, _≤_, _<_}
-use mathlib.Core.Path.{_≡_, refl, sym, ap, _∙_, subst}
+use mathlib.Core.Path.{_≡_, refl}
 use mathlib.Core.Logic.{_≢_}
-use mathlib.Core.Bool.{Bool, true, false, not}
-use mathlib.Core.List.{List, [], _∷_, _++_, append-nil}
+use mathlib.Core.Bool.{Bool, true, false}
+use mathlib.Core.List.{List, [], _∷_}
 use native.Mathlib.Omega.{arith}
-use lib.Dec.{eqb, leb, ltb}
-use lib.ListN.{length, take, drop, getD, length-append, List·getD-append}
-use lib.Seq.{take-suc, take-append-le, take-all, getD-at}
-use borrow.Author.Tests.{eqb-true, eqb-false, leb-true, leb-false, ltb-true, ltb-false, eq-eqb, ne-eqb, le-leb, lt-leb, lt-ltb, le-ltb}
-use Rattle.base.specs.Choice.{pick, both, either, upd, allBelow}
-use Rattle.base.specs.Record.{Entry, Rec, E, B, «V», X}
-use Rattle.base.proofs.Choice.{tests, passes, case, clash, eq-cases, both-true, both-yes, both-no, either-right, either-false, not-is, all-of}
-use Rattle.trace.specs.Rules.{Past, same, less, each, anyE, new1, rule1, hasE, countB, new2, rule2, anyB, new3, rule3, vs, begins, rule4, hasV, had, eachV, eachB, rule5, lastV, new6, rule6, lowest, broken, sound, allSound, Answer, keeps, breaks, refuses, walk, fit, answer}
-use Rattle.trace.specs.Fold.{none, mem, St, start, next, t1, t2, t3, t4, t5, t6, test, fast, check, stOf}
-use Rattle.trace.specs.Held.{anyV, Full, Seqs, Kept, Inv}
+use lib.Dec.{eqb}
+use lib.ListN.{length, take}
+use borrow.Author.Tests.{eqb-true, eqb-false}
+use Rattle.base.specs.Record.{Rec}
+use Rattle.trace.specs.Rules.{Past, broken, Answer, keeps, breaks, refuses, walk}
 
 -- the records of t, in their order, put before p
 abbrev pub past : Past → List Rec → Past
@@ -35,7 +30,6 @@ Says n p t (breaks i k) = First n p t i k
 Says n p t refuses = ⊥
 
 more : (n : ℕ) (r : Rec) (t : List Rec) (p : Past) → broken n p ≡ 0 → (a : Answer) → Says n (r ∷ p) t a → Says n p (r ∷ t) a
-unfolding both either pick upd allBelow
 more n r t p b keeps h = go
   where
     go : (j : ℕ) → broken n (past p (take j (r ∷ t))) ≡ 0
@@ -49,7 +43,6 @@ more n r t p b (breaks i k) h = record { m = suc (h .m); at = omega (arith, h .a
 more n r t p b refuses h = absurd h
 
 pub says : (n : ℕ) (t : List Rec) (p : Past) → broken n p ≡ 0 → Says n p t (walk n p t)
-unfolding both either pick upd allBelow
 says n [] p b = go
   where
     go : (j : ℕ) → broken n (past p (take j [])) ≡ 0

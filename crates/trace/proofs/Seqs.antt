@@ -1,37 +1,35 @@
 -- What the longest sequence and the counts mean while no rule is broken, and the tests of rules 4 and 5.
-use Prim.Native.Nat.{ℕ, zero, suc, _+_, _≤_, _<_}
+use Prim.Native.Nat.{ℕ, zero, suc, _≤_, _<_}
 use mathlib.Core.Path.{_≡_, refl, sym, ap, _∙_, subst}
 use mathlib.Core.Logic.{_≢_}
 use mathlib.Core.Bool.{Bool, true, false, not}
-use mathlib.Core.List.{List, [], _∷_, _++_, append-nil}
+use mathlib.Core.List.{[], _∷_, _++_}
 use native.Mathlib.Omega.{arith}
 use lib.Dec.{eqb, leb, ltb}
-use lib.ListN.{length, take, drop, getD, length-append, List·getD-append}
-use lib.Seq.{take-suc, take-append-le, take-all, getD-at}
-use borrow.Author.Tests.{eqb-true, eqb-false, leb-true, leb-false, ltb-true, ltb-false, eq-eqb, ne-eqb, le-leb, lt-leb, lt-ltb, le-ltb}
-use Rattle.base.specs.Choice.{pick, both, either, upd, allBelow}
-use Rattle.base.specs.Record.{Entry, Rec, E, B, «V», X}
-use Rattle.base.proofs.Choice.{tests, passes, case, clash, eq-cases, both-true, both-yes, both-no, either-right, either-false, not-is, all-of}
-use Rattle.trace.specs.Rules.{Past, same, less, each, anyE, new1, rule1, hasE, countB, new2, rule2, anyB, new3, rule3, vs, begins, rule4, hasV, had, eachV, eachB, rule5, lastV, new6, rule6, lowest, broken, sound, allSound, Answer, keeps, breaks, refuses, walk, fit, answer}
-use Rattle.trace.specs.Fold.{none, mem, St, start, next, t1, t2, t3, t4, t5, t6, test, fast, check, stOf}
-use Rattle.trace.specs.Held.{anyV, Full, Seqs, Kept, Inv}
-use Rattle.trace.proofs.Base.{either-comm, same-true, same-self, same-comm, less-self, Less, less-true, less-yes, less-trans, less-differs, vs-V}
-use Rattle.trace.proofs.Five.{eachV-all, eachV-no, late, five-V, late-old, late-new}
-use Rattle.trace.proofs.Four.{Seq, mem-append, At, mem-at, at-mem, at-in, not-mem, has-is, below-all, four-yes, four-no}
+use lib.ListN.{length, take, getD, length-append}
+use lib.Seq.{take-suc, take-append-le, take-all}
+use borrow.Author.Tests.{eqb-true, leb-true, leb-false, ltb-true, ltb-false, eq-eqb, ne-eqb, le-leb, lt-leb}
+use Rattle.base.specs.Choice.{pick, both, either, upd}
+use Rattle.base.specs.Record.{Entry, «V»}
+use Rattle.base.proofs.Choice.{tests, case, clash, eq-cases, either-right}
+use Rattle.trace.specs.Rules.{Past, same, less, vs, rule4, hasV, had, eachV, rule5}
+use Rattle.trace.specs.Fold.{none, mem, stOf}
+use Rattle.trace.specs.Held.{Seqs}
+use Rattle.trace.proofs.Base.{same-true, less-self, less-true, less-trans, less-differs, vs-V, snoc, old-at, new-at}
+use Rattle.trace.proofs.Five.{eachV-all, eachV-no, late, late-old, late-new}
+use Rattle.trace.proofs.Four.{Seq, mem-append, At, mem-at, at-mem, at-in, not-mem, has-is, four-yes, four-no}
 
 module _ (n : ℕ) (p : Past) (l : Seq) (c : ℕ → ℕ) (z : ℕ → Entry) (Q : Seqs n p l c z) where
   low-mem : (x : ℕ) (t : Entry) (a : At t l) → a .place < c x → hasV x t p ≡ true
-  unfolding both either pick upd allBelow
   low-mem x t a h = has-is p x t ∙ ap (mem t) (Q .all x) ∙ subst (λ (u : Entry). mem u (take (c x) l) ≡ true) (a .here) (at-mem l (a .place) (c x) (a .low) h)
 
   ep-rise : (i j : ℕ) → i ≤ j → j < length l → getD l i none .ep ≤ getD l j none .ep
-  unfolding both either pick upd allBelow
   ep-rise i j h k = case (eqb i j)
       (λ q. let e : i ≡ j = eqb-true i j q in rw e (omega arith))
       (λ q. less-true (getD l i none) (getD l j none) (Q .rise i j (omega tests) k) .ep)
 
   pub five-B : (x e : ℕ) → eachV (had x e p) p ≡ either (leb (length l) (c x)) (leb e (getD l (c x) none .ep))
-  unfolding both either pick upd allBelow
+  unfolding either
   five-B x e = case (leb (length l) (c x))
       (λ q. rw q (eachV-all (had x e p) p (λ t a. let A = mem-at t l (sym (Q .any t) ∙ a) in
       either-right (leb e (t .ep)) _ (low-mem x t A (omega (tests, A .low, q))))))
@@ -46,19 +44,19 @@ module _ (n : ℕ) (p : Past) (l : Seq) (c : ℕ → ℕ) (z : ℕ → Entry) (Q
 
   module _ (s : ℕ) (t : Entry) where
     all-ext : length l ≤ c s → (x : ℕ) → vs x («V» s t ∷ p) ≡ take (upd c s (suc (c s)) x) (l ++ (t ∷ []))
-    unfolding both either pick upd allBelow
+    unfolding pick upd
     all-ext h x = vs-V x s t p ∙ eq-cases (λ (b : Bool). pick b (vs x p ++ (t ∷ [])) (vs x p) ≡ take (pick b (suc (c s)) (c x)) (l ++ (t ∷ []))) x s
         (λ q. rw (q, Q .all s, take-all (c s) l h) (sym (take-all (suc (c s)) (l ++ (t ∷ [])) (omega (arith, length-append l (t ∷ []))))))
         (λ _. Q .all x ∙ sym (take-append-le (c x) l (t ∷ []) (Q .len x)))
 
     all-in : c s < length l → t ≡ getD l (c s) none → (x : ℕ) → vs x («V» s t ∷ p) ≡ take (upd c s (suc (c s)) x) l
-    unfolding both either pick upd allBelow
+    unfolding pick upd
     all-in h e x = vs-V x s t p ∙ eq-cases (λ (b : Bool). pick b (vs x p ++ (t ∷ [])) (vs x p) ≡ take (pick b (suc (c s)) (c x)) l) x s
         (λ q. rw (q, Q .all s, e) (sym (take-suc l (c s) none h)))
         (λ _. Q .all x)
 
     pub four-V : s < n → rule4 n («V» s t ∷ p) ≡ either (leb (length l) (c s)) (same t (getD l (c s) none))
-    unfolding both either pick upd allBelow
+    unfolding either pick
     four-V a = case (leb (length l) (c s))
         (λ q. rw q (four-yes n («V» s t ∷ p) (l ++ (t ∷ [])) (upd c s (suc (c s))) (all-ext (leb-true _ _ q))))
         (λ q. let h : c s < length l = leb-false _ _ q in rw q (case (same t (getD l (c s) none))
@@ -71,7 +69,6 @@ module _ (n : ℕ) (p : Past) (l : Seq) (c : ℕ → ℕ) (z : ℕ → Entry) (Q
 
     -- a V that extends the longest and is in it already does not rise
     not-rise : length l ≤ c s → mem t l ≡ true → less (z s) t ≡ false
-    unfolding both either pick upd allBelow
     not-rise h m = case (less (z s) t)
         (λ q. let A = mem-at t l m in go A (length l) refl q)
         (λ q. q)
@@ -87,7 +84,7 @@ module _ (n : ℕ) (p : Past) (l : Seq) (c : ℕ → ℕ) (z : ℕ → Entry) (Q
 
     pub five-V′ : rule5 p ≡ true → either (leb (length l) (c s)) (same t (getD l (c s) none)) ≡ true
         → late t p ≡ either (ltb (c s) (length l)) (either (leb (stOf p .top) (t .ep)) (both (not (less (z s) t)) (mem t l)))
-    unfolding both either pick upd allBelow
+    unfolding both either
     five-V′ k f = case (ltb (c s) (length l))
         (λ q. let h : c s < length l = ltb-true _ _ q in
         let e : t ≡ getD l (c s) none = same-true _ _ (rw (lt-leb (length l) (c s) h) at f) in
@@ -102,11 +99,11 @@ module _ (n : ℕ) (p : Past) (l : Seq) (c : ℕ → ℕ) (z : ℕ → Entry) (Q
         tail false false = refl
 
     len-up : (m : Seq) → length l ≤ length m → suc (c s) ≤ length m → (x : ℕ) → upd c s (suc (c s)) x ≤ length m
-    unfolding both either pick upd allBelow
+    unfolding pick upd
     len-up m a b x = eq-cases (λ (w : Bool). pick w (suc (c s)) (c x) ≤ length m) x s (λ _. b) (λ _. omega (arith, Q .len x))
 
     pub grow-in : c s < length l → t ≡ getD l (c s) none → Seqs n («V» s t ∷ p) l (upd c s (suc (c s))) (upd z s t)
-    unfolding both either pick upd allBelow
+    unfolding either pick upd
     grow-in h e = record {
       len = len-up l (omega arith) h;
       all = all-in h e;
@@ -116,20 +113,7 @@ module _ (n : ℕ) (p : Past) (l : Seq) (c : ℕ → ℕ) (z : ℕ → Entry) (Q
       last = λ x k. eq-cases (λ (b : Bool). pick b (suc (c s)) (c x) ≡ suc k → pick b t (z x) ≡ getD l k none) x s (λ _ d. (let y : c s ≡ k = omega arith in rw (← y) e)) (λ _ d. Q .last x k d);
     }
 
-    snoc : length (l ++ (t ∷ [])) ≡ suc (length l)
-    unfolding both either pick upd allBelow
-    snoc = rw (length-append l (t ∷ [])) (omega arith)
-
-    old-at : (i : ℕ) → i < length l → getD (l ++ (t ∷ [])) i none ≡ getD l i none
-    unfolding both either pick upd allBelow
-    old-at i h = List·getD-append l (t ∷ []) none i h
-
-    new-at : getD (l ++ (t ∷ [])) (length l) none ≡ t
-    unfolding both either pick upd allBelow
-    new-at = getD-at l t [] none (length l) refl
-
     above : length l ≤ c s → less (z s) t ≡ true → (i : ℕ) → i < length l → less (getD l i none) t ≡ true
-    unfolding both either pick upd allBelow
     above h r i k = go (length l) refl
       where
         go : (m : ℕ) → length l ≡ m → less (getD l i none) t ≡ true
@@ -142,16 +126,16 @@ module _ (n : ℕ) (p : Past) (l : Seq) (c : ℕ → ℕ) (z : ℕ → Entry) (Q
             (λ q. less-trans (getD l i none) (getD l m none) t (Q .rise i m (omega tests) (omega arith)) g)
 
     pub grow-ext : s < n → length l ≤ c s → less (z s) t ≡ true → Seqs n («V» s t ∷ p) (l ++ (t ∷ [])) (upd c s (suc (c s))) (upd z s t)
-    unfolding both either pick upd allBelow
+    unfolding pick upd
     grow-ext a h r = record {
-      len = len-up (l ++ (t ∷ [])) (omega (arith, snoc)) (omega (arith, snoc, Q .len s));
+      len = len-up (l ++ (t ∷ [])) (omega (arith, snoc l t)) (omega (arith, snoc l t, Q .len s));
       all = all-ext h;
-      full = λ k. record { who = s; low = a; holds = rw (eq-eqb s s refl) (omega (arith, snoc, Q .len s)) };
+      full = λ k. record { who = s; low = a; holds = rw (eq-eqb s s refl) (omega (arith, snoc l t, Q .len s)) };
       rise = λ i j d k. case (eqb j (length l))
-          (λ q. let e : j ≡ length l = eqb-true _ _ q in rw (e, new-at, old-at i (omega arith)) (above h r i (omega arith)))
-          (λ q. let e : j < length l = omega (tests, snoc) in rw (old-at j e, old-at i (omega arith)) (Q .rise i j d e));
+          (λ q. let e : j ≡ length l = eqb-true _ _ q in rw (e, new-at l t (length l) refl, old-at l t i (omega arith)) (above h r i (omega arith)))
+          (λ q. let e : j < length l = omega (tests, snoc l t) in rw (old-at l t j e, old-at l t i (omega arith)) (Q .rise i j d e));
       any = λ u. ap (either (same u t)) (Q .any u) ∙ sym (mem-append u t l);
       last = λ x k. eq-cases (λ (b : Bool). pick b (suc (c s)) (c x) ≡ suc k → pick b t (z x) ≡ getD (l ++ (t ∷ [])) k none) x s
-          (λ _ d. (let y : k ≡ length l = omega (arith, Q .len s) in rw y (sym new-at)))
-          (λ _ d. Q .last x k d ∙ sym (old-at k (omega (arith, Q .len x))));
+          (λ _ d. (let y : k ≡ length l = omega (arith, Q .len s) in rw y (sym (new-at l t (length l) refl))))
+          (λ _ d. Q .last x k d ∙ sym (old-at l t k (omega (arith, Q .len x))));
     }

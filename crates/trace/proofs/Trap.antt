@@ -3,12 +3,12 @@
 use Prim.Native.Nat.{ℕ}
 use mathlib.Core.Path.{_≡_, refl}
 use mathlib.Core.Bool.{Bool, true, false}
-use mathlib.Core.List.{List, [], _∷_}
+use mathlib.Core.List.{[], _∷_}
 use lib.Dec.{leb, ltb}
 use lib.ListN.{length}
 use Rattle.base.specs.Choice.{pick, both, either, upd, allBelow}
-use Rattle.base.specs.Record.{Entry, Rec, E, B, «V»}
-use Rattle.trace.specs.Rules.{answer, fit, broken, same, less, Answer, breaks}
+use Rattle.base.specs.Record.{Entry, E, B, «V»}
+use Rattle.trace.specs.Rules.{answer, fit, broken, same, less, breaks}
 use Rattle.trace.specs.Fold.{St, stOf, t5}
 
 abbrev by-epoch : St → ℕ → Entry → Bool

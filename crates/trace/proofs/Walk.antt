@@ -1,20 +1,19 @@
 -- The walk over the records: what holds before each, and what is answered.
-use Prim.Native.Nat.{ℕ, zero, suc, _+_, _-_, _*_, _/_, _%_, _≤_, _<_}
+use Prim.Native.Nat.{ℕ, zero, suc, _+_, _-_, _/_, _%_, _≤_, _<_}
 use mathlib.Core.Path.{_≡_, refl, sym, ap, _∙_, subst}
-use mathlib.Core.Bool.{Bool, true, false, not}
+use mathlib.Core.Bool.{Bool, true, false}
 use mathlib.Core.List.{List, [], _∷_, _++_}
 use native.Mathlib.Omega.{arith}
 use lib.Dec.{eqb, leb, ltb}
-use lib.ListN.{length, take, drop, getD, replicate, getD-replicate, length-append}
+use lib.ListN.{length, drop, getD, replicate, getD-replicate, length-append}
 use lib.Seq.{getD-take, drop-append-add, drop-drop}
-use borrow.Author.Tests.{eqb-true, eqb-false, eq-eqb, ne-eqb, le-leb, lt-leb, lt-ltb, le-ltb, leb-true, ltb-true}
+use borrow.Author.Tests.{eqb-true, eq-eqb, ne-eqb, le-leb, lt-leb, leb-true, ltb-true}
 use Rattle.base.specs.Choice.{pick, both}
 use Rattle.base.specs.Record.{Rec, E, B, «V», X}
 use Rattle.base.proofs.Choice.{tests, case, clash, both-true, both-no}
-use Rattle.trace.specs.Rules.{Past, anyE, vs, broken, sound, allSound, Answer, keeps, breaks, refuses, walk, fit, answer}
-use Rattle.trace.specs.Fold.{stOf}
-use Rattle.trace.specs.Words.{kindOf, whoOf, epochAt, counterAt, entryAt, recAt, recsFrom, recsOf, pastAt, countOf, knownAt, allKnown, readable, grown, laid}
-use Rattle.trace.specs.Meaning.{meant, verdict, left, Judged, Checked}
+use Rattle.trace.specs.Rules.{Past, vs, broken, sound, allSound, Answer, breaks, refuses, walk, fit, answer}
+use Rattle.trace.specs.Words.{WORDS, kindOf, whoOf, epochAt, counterAt, entryAt, recAt, recsFrom, recsOf, pastAt, countOf, knownAt, allKnown, readable, grown, laid}
+use Rattle.trace.specs.Meaning.{verdict, left, Judged, Checked}
 use Rattle.trace.specs.Step.{Ready, Holds, Stepped}
 use Rattle.trace.specs.declared.step.State.{State}
 use Rattle.trace.specs.declared.step.Told.{Told}
@@ -177,18 +176,18 @@ module _ (n : ℕ) (w sp : List ℕ) where
   unfolding fit both
   check-many h = unfit (rw (le-leb 3 n (omega arith), lt-leb n 7 h))
 
-  pub check-part : (length w % 5 ≡ 0 → ⊥) → Checked n w sp Refused sp
+  pub check-part : (length w % WORDS ≡ 0 → ⊥) → Checked n w sp Refused sp
   unfolding readable both
-  check-part h = unread (rw (ne-eqb (length w % 5) 0 h))
+  check-part h = unread (rw (ne-eqb (length w % WORDS) 0 h))
 
-  pub check-long : 3 ≤ n → n ≤ 7 → 1024 < length w / 5 → Checked n w sp Refused sp
+  pub check-long : 3 ≤ n → n ≤ 7 → 1024 < countOf w → Checked n w sp Refused sp
   unfolding fit both
   check-long a b h = unfit (rw (le-leb 3 n a, le-leb n 7 b, recs-length w (countOf w) 0, lt-leb (countOf w) 1024 h))
 
-  pub check-room : length sp < length w / 5 → Checked n w sp Refused sp
+  pub check-room : length sp < countOf w → Checked n w sp Refused sp
   check-room h = unread (both-no (readable w) (leb (countOf w) (length sp)) (lt-leb (countOf w) (length sp) h))
 
-  pub check-judged : {r : Verdict} {sp′ : List ℕ} → 3 ≤ n → n ≤ 7 → length w % 5 ≡ 0 → length w / 5 ≤ 1024 → length w / 5 ≤ length sp → Judged n w sp (countOf w) r sp′ → Checked n w sp r sp′
+  pub check-judged : {r : Verdict} {sp′ : List ℕ} → 3 ≤ n → n ≤ 7 → length w % WORDS ≡ 0 → countOf w ≤ 1024 → countOf w ≤ length sp → Judged n w sp (countOf w) r sp′ → Checked n w sp r sp′
   unfolding verdict readable answer fit pick both
   check-judged {r} {sp′} a b d l m J = record { says = J .says ∙ sym whole; space = J .space ∙ ap (λ (x : Answer). left x w sp) (J .says ∙ sym whole) }
     where
@@ -197,4 +196,4 @@ module _ (n : ℕ) (w sp : List ℕ) where
       two false y v = refl
 
       whole : verdict n w (length sp) ≡ pick (both (allKnown w 0 (countOf w)) (allSound n (recsFrom w 0 (countOf w)))) (walk n [] (recsFrom w 0 (countOf w))) refuses
-      whole = rw (eq-eqb (length w % 5) 0 d, le-leb (countOf w) (length sp) m, le-leb 3 n a, le-leb n 7 b, recs-length w (countOf w) 0, le-leb (countOf w) 1024 l) (two (allKnown w 0 (countOf w)) (allSound n (recsFrom w 0 (countOf w))) (walk n [] (recsFrom w 0 (countOf w))))
+      whole = rw (eq-eqb (length w % WORDS) 0 d, le-leb (countOf w) (length sp) m, le-leb 3 n a, le-leb n 7 b, recs-length w (countOf w) 0, le-leb (countOf w) 1024 l) (two (allKnown w 0 (countOf w)) (allSound n (recsFrom w 0 (countOf w))) (walk n [] (recsFrom w 0 (countOf w))))

@@ -1,25 +1,23 @@
 -- What the answer says of a trace.
-use Prim.Native.Nat.{ℕ, zero, suc, _+_, _≤_, _<_}
-use mathlib.Core.Path.{_≡_, refl, sym, ap, _∙_, subst}
+use Prim.Native.Nat.{ℕ, suc, _≤_, _<_}
+use mathlib.Core.Path.{_≡_, refl, sym, _∙_, subst}
 use mathlib.Core.Logic.{_≢_, _⊎_, inl, inr, ⊎-elim}
-use mathlib.Core.Bool.{Bool, true, false, not}
-use mathlib.Core.List.{List, [], _∷_, _++_, append-nil}
+use mathlib.Core.Bool.{Bool, true, false}
+use mathlib.Core.List.{List, [], _∷_, _++_}
 use native.Mathlib.Omega.{arith}
-use lib.Dec.{eqb, leb, ltb}
-use lib.ListN.{length, take, drop, getD, length-append, List·getD-append}
-use lib.Seq.{take-suc, take-append-le, take-all, getD-at, take-length}
-use borrow.Author.Tests.{eqb-true, eqb-false, leb-true, leb-false, ltb-true, ltb-false, eq-eqb, ne-eqb, le-leb, lt-leb, lt-ltb, le-ltb}
-use Rattle.base.specs.Choice.{pick, both, either, upd, allBelow}
+use lib.Dec.{eqb}
+use lib.ListN.{length, take}
+use lib.Seq.{take-length}
+use Rattle.base.specs.Choice.{pick, both, either}
 use Rattle.base.specs.Record.{Entry, Rec, E, B, «V», X}
-use Rattle.base.proofs.Choice.{tests, passes, case, clash, eq-cases, both-true, both-yes, both-no, either-right, either-left, either-true, either-false, not-is, all-of, all-at}
-use Rattle.trace.specs.Rules.{Past, same, less, each, anyE, new1, rule1, hasE, countB, new2, rule2, anyB, new3, rule3, vs, begins, rule4, hasV, had, eachV, eachB, rule5, lastV, new6, rule6, lowest, broken, sound, allSound, Answer, keeps, breaks, refuses, walk, fit, answer}
-use Rattle.trace.specs.Fold.{none, mem, St, start, next, t1, t2, t3, t4, t5, t6, test, fast, check, stOf}
-use Rattle.trace.specs.Held.{anyV, Full, Seqs, Kept, Inv}
-use Rattle.trace.proofs.Base.{either-comm, same-true, same-self, same-comm, less-self, Less, less-true, less-yes, less-trans, less-differs, vs-V}
-use Rattle.trace.proofs.Four.{Seq, mem-append, At, mem-at, at-mem, at-in, not-mem, has-is, below-all, four-yes, four-no}
-use Rattle.trace.proofs.Five.{eachV-all, eachV-no, late, five-V, late-old, late-new, eachB-both, eachB-map}
-use Rattle.trace.proofs.Main.{check-is, low-zero}
-use Rattle.trace.proofs.Says.{past, First, Says, says}
+use Rattle.base.proofs.Choice.{tests, case, both-true, either-left, either-true, all-of, all-at}
+use Rattle.trace.specs.Rules.{Past, same, each, new1, rule1, new2, rule2, new3, rule3, vs, begins, rule4, had, eachV, rule5, new6, rule6, lowest, broken, Answer, keeps, breaks, refuses, walk, fit, answer}
+use Rattle.trace.specs.Held.{Kept}
+use Rattle.trace.proofs.Base.{either-comm, same-comm}
+use Rattle.trace.proofs.Four.{Seq}
+use Rattle.trace.proofs.Five.{late, eachB-both}
+use Rattle.trace.proofs.Main.{all-kept}
+use Rattle.trace.proofs.Says.{past, Says, says}
 
 -- ---- every beginning of a trace that keeps the rules keeps them
 
@@ -76,12 +74,6 @@ module _ (n : ℕ) where
   pub none-broken : (p : Past) → Kept n p → broken n p ≡ 0
   unfolding broken
   none-broken p K = rw (K .k1, K .k2, K .k3, K .k4, K .k5, K .k6)
-
-  pub all-kept : (p : Past) → broken n p ≡ 0 → Kept n p
-  unfolding broken
-  all-kept p h =
-      let k = low-zero (rule1 p) (rule2 p) (rule3 p) (rule4 n p) (rule5 p) (rule6 p) h in
-      record { k1 = k .0; k2 = k .1; k3 = k .2; k4 = k .3; k5 = k .4; k6 = k .5 }
 
   kept-start : Kept n []
   kept-start = record { k1 = refl; k2 = refl; k3 = refl; k4 = all-of n _ (λ x _. all-of n _ (λ y _. either-left true true refl)); k5 = refl; k6 = refl }

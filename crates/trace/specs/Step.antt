@@ -1,15 +1,16 @@
 -- What the state and the space stand for, before a record and after it.
 use Prim.Native.Nat.{ℕ, suc, _+_, _-_, _≤_, _<_}
 use mathlib.Core.Path.{_≡_}
-use mathlib.Core.Bool.{Bool, true, false}
+use mathlib.Core.Bool.{Bool, true}
 use mathlib.Core.List.{List, _∷_, map}
 use lib.Dec.{eqb, leb, ltb}
 use lib.ListN.{length, take, getD, set}
-use Rattle.base.specs.Choice.{pick, either}
-use Rattle.trace.specs.Rules.{Past, same, less, anyE, anyB, broken, sound}
+use Rattle.base.specs.Choice.{pick, both, either}
+use Rattle.base.specs.Record.{B}
+use Rattle.trace.specs.Rules.{Past, same, less, anyE, rule1, new2, rule2, anyB, broken, sound}
 use Rattle.trace.specs.Fold.{mem, stOf}
 use Rattle.trace.specs.Held.{Inv}
-use Rattle.trace.specs.Words.{Within, kindOf, whoOf, counterAt, entryAt, recAt, pastAt, grown, laid}
+use Rattle.trace.specs.Words.{Within, kindOf, whoOf, epochAt, counterAt, entryAt, recAt, pastAt, grown, laid}
 use Rattle.trace.specs.declared.step.State.{State}
 use Rattle.trace.specs.declared.step.Told.{Told}
 
@@ -58,9 +59,21 @@ insideOf w at i x s =
     (record { rule = 0; state = record { counts = set (s .counts) x (getD (s .counts) x 0 + 1); len = s .len; top = s .top; high = s .high; seen = s .seen } })
     (record { rule = pick (anyB (entryAt w i) (pastAt w i)) 4 3; state = s })
 
+-- rule 2 at record i, a B
+abbrev pub Follows : List ℕ → ℕ → Bool → Type 0
+Follows w i r = rule1 (pastAt w i) ≡ true → rule2 (pastAt w i) ≡ true → r ≡ new2 (B (whoOf w i) (entryAt w i)) (pastAt w i)
+
+-- a server that delivered c lacks the next transaction of the longest, and its epoch is earlier than that of record i
+abbrev pub lacksOf : List ℕ → List ℕ → ℕ → ℕ → ℕ → Bool
+lacksOf w sp i c len = both (ltb c len) (ltb (epochAt w (getD sp c 0)) (epochAt w i))
+
+-- is record i above the last of the longest?
+abbrev pub risesOf : List ℕ → List ℕ → ℕ → ℕ → Bool
+risesOf w sp i len = pick (eqb len 0) true (less (entryAt w (getD sp (len - 1) 0)) (entryAt w i))
+
 -- rules 5 and 6 at a V that makes the longest longer
 unfoldable pub lateOf : List ℕ → List ℕ → ℕ → ℕ → ℕ → ℕ
 lateOf w sp i len top =
-    pick (pick (eqb len 0) true (less (entryAt w (getD sp (len - 1) 0)) (entryAt w i)))
+    pick (risesOf w sp i len)
     (pick (leb top (entryAt w i .ep)) 0 5)
     (pick (either (leb top (entryAt w i .ep)) (mem (entryAt w i) (map (entryAt w) (take len sp)))) 6 5)

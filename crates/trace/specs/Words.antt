@@ -1,6 +1,6 @@
 -- The records of a trace as words, and what is looked for among them.
-use Prim.Native.Nat.{ℕ, zero, suc, _+_, _*_, _/_, _%_, _<_}
-use mathlib.Core.Bool.{Bool, true, false}
+use Prim.Native.Nat.{ℕ, zero, suc, _+_, _*_, _/_, _%_, _≤_, _<_}
+use mathlib.Core.Bool.{Bool, true}
 use mathlib.Core.List.{List, [], _∷_, _++_}
 use lib.Dec.{eqb, leb}
 use lib.ListN.{length, getD, drop}
@@ -67,7 +67,11 @@ readable w = both (eqb (length w % WORDS) 0) (allKnown w 0 (countOf w))
 
 -- record i's words lie in w
 abbrev pub Within : List ℕ → ℕ → Type 0
-Within w i = WORDS * i + 4 < length w
+Within w i = WORDS * i + WORDS ≤ length w
+
+-- and the first len words of sp are numbers of records before it
+abbrev pub Marked : List ℕ → List ℕ → ℕ → ℕ → Type 0
+Marked w sp i len = Within w i × (len ≤ length sp) × ((k : ℕ) → k < len → getD sp k 0 < i)
 
 -- ---- the longest delivered sequence, by the numbers of the records at which it grew
 

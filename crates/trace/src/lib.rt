@@ -1,15 +1,15 @@
-// The trace checker.
+// The trace checker: one pass over the records, once none is malformed.
 //
-// One pass over the records, once none is malformed. A V inside the longest delivered sequence costs one comparison. A new
-// transaction looks for its B once, from the last one's on. A B looks back to the latest record of its epoch, so that the B of
-// one epoch pass over a record at most once; an E above all earlier ones looks nowhere. So the cost is at most the records
-// times the epochs, and with epochs that rise, each begun once the one before has ended, it is linear.
+// A V inside the longest delivered sequence is compared with one record. A new transaction looks for its B from the last one's
+// on, so all of them together pass the trace once. A B looks back to the latest record of its epoch, so the B of one epoch
+// together pass the trace once. An E above all earlier ones looks nowhere, another E looks through the trace. So the worst cost
+// is the records times the epochs; of a trace whose epochs rise and follow each other it is the records.
 mod look;
 mod step;
 mod words;
 
 ghost use mathlib.Core.Path.{_≡_};
-ghost use Prim.Native.Nat.{_+_, _*_, _≤_, _<_};
+ghost use Prim.Native.Nat.{_*_, _≤_, _<_};
 ghost use lib.ListN.{length};
 ghost use Rattle.base.specs.Choice.{both};
 ghost use Rattle.trace.specs.Rules.{sound, allSound};
@@ -50,6 +50,7 @@ fn sound(n: u32, recs: &[u64], i: usize) -> bool
     words::counter(recs, i) != 0
 }
 
+// Are all of them?
 fn all_sound(n: u32, recs: &[u64], count: usize) -> bool
     requires { ⌜ WORDS * count ≤ length (now recs) ⌝ }
     ensures { λ r. ⌜ r ≡ both (allKnown (now (recs .entry)) 0 count) (allSound n (recsFrom (now (recs .entry)) 0 count)) ⌝ }
@@ -64,6 +65,7 @@ fn all_sound(n: u32, recs: &[u64], count: usize) -> bool
     true
 }
 
+// The walk: record after record, until one breaks a rule.
 fn judge(n: u32, recs: &[u64], space: &mut [u64], count: usize) -> Verdict
     requires { ⌜ (n ≤ 7) × (count ≡ countOf (now recs)) × (count ≤ 1024) × (count ≤ length (now space)) ⌝ }
     ensures { λ r. ⌜ Judged n (now (recs .entry)) (now (space .entry)) count r (now (space .exit)) ⌝ }
@@ -82,7 +84,8 @@ fn judge(n: u32, recs: &[u64], space: &mut [u64], count: usize) -> Verdict
     while i < count {
         let t = step::step(recs, space, i, s);
         if t.rule != 0 {
-            return Verdict::Breaks(i as u32, t.rule);
+            let place = i as u32;
+            return Verdict::Breaks(place, t.rule);
         }
         s = t.state;
         i += 1;
@@ -90,8 +93,8 @@ fn judge(n: u32, recs: &[u64], space: &mut [u64], count: usize) -> Verdict
     Verdict::Keeps
 }
 
-// Does the trace `recs`, of n servers, keep the six rules? The caller lends a space of a word for each record. Refused with
-// TRACE also if the words are not whole records, or the space is smaller; the space is then as it was.
+// Does the trace `recs`, of n servers, keep the six rules? The caller lends a space of at least a word for each record. TRACE
+// is the only refusal, so it is given too if the words are not whole records and if the space is too small.
 pub fn check(n: u32, recs: &[u64], space: &mut [u64]) -> Verdict
     ensures { λ r. ⌜ Checked n (now (recs .entry)) (now (space .entry)) r (now (space .exit)) ⌝ }
 {

@@ -2,10 +2,10 @@
 use crate::words;
 ghost use mathlib.Core.Path.{_≡_};
 ghost use mathlib.Core.List.{map};
-ghost use Prim.Native.Nat.{ℕ, _-_, _*_, _≤_, _<_};
-ghost use lib.ListN.{length, take, getD};
+ghost use Prim.Native.Nat.{_-_, _*_, _≤_, _<_};
+ghost use lib.ListN.{length, take};
 ghost use Rattle.trace.specs.Fold.{mem};
-ghost use Rattle.trace.specs.Words.{WORDS, Within, entryAt, ofEpoch, latestOf, submits, seekOf};
+ghost use Rattle.trace.specs.Words.{WORDS, Within, Marked, entryAt, ofEpoch, latestOf, submits, seekOf};
 ghost use Rattle.trace.specs.Step.{Source};
 
 // Is record j an E or a B of epoch e?
@@ -78,7 +78,7 @@ pub fn source(recs: &[u64], i: usize, seen: usize) -> usize
 
 // Is the transaction of record i among those of the first `len` records of the space?
 pub fn among(recs: &[u64], space: &[u64], len: usize, i: usize) -> bool
-    requires { ⌜ Within (now recs) i × (len ≤ length (now space)) × ((k : ℕ) → k < len → getD (now space) k 0 < i) ⌝ }
+    requires { ⌜ Marked (now recs) (now space) i len ⌝ }
     ensures { λ r. ⌜ r ≡ mem (entryAt (now (recs .entry)) i) (map (entryAt (now (recs .entry))) (take len (now (space .entry)))) ⌝ }
 {
     let mut k = len;

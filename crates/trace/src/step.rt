@@ -2,15 +2,11 @@
 use crate::look;
 use crate::words;
 ghost use mathlib.Core.Path.{_≡_};
-ghost use mathlib.Core.List.{List, map};
-ghost use mathlib.Core.Bool.{true};
-ghost use Prim.Native.Nat.{ℕ, _+_, _-_, _*_, _^_, _≤_, _<_};
-ghost use lib.Dec.{eqb, ltb};
-ghost use lib.ListN.{length, take, getD};
-ghost use Rattle.base.specs.Choice.{pick, both};
-ghost use Rattle.trace.specs.Rules.{less, rule1, rule2, hasE, countB};
-ghost use Rattle.trace.specs.Words.{WORDS, Within, kindOf, whoOf, epochAt, counterAt, entryAt, pastAt};
-ghost use Rattle.trace.specs.Step.{Ready, Steps, lateOf, insideOf};
+ghost use mathlib.Core.List.{List};
+ghost use Prim.Native.Nat.{ℕ, _≤_, _<_};
+ghost use lib.ListN.{getD};
+ghost use Rattle.trace.specs.Words.{Within, Marked, kindOf, whoOf, counterAt};
+ghost use Rattle.trace.specs.Step.{Ready, Steps, Follows, lacksOf, risesOf, lateOf, insideOf};
 
 // What is kept of the trace so far, beside the space, which has the numbers of the records at which the longest delivered
 // sequence grew: all servers' sequences begin it. `counts` is how many transactions each server delivered, `len` the length of
@@ -50,8 +46,7 @@ fn at_e(recs: &[u64], i: usize, s: State) -> Told
 // Rule 2 at a B: the latest record of its epoch is the E of its server, or a B of it with the counter before.
 fn follows(recs: &[u64], i: usize) -> bool
     requires { ⌜ Within (now recs) i × (1 ≤ counterAt (now recs) i) ⌝ }
-    ensures { λ r. ⌜ (rule1 (pastAt (now (recs .entry)) i) ≡ true → rule2 (pastAt (now (recs .entry)) i) ≡ true
-        → r ≡ both (hasE (whoOf (now (recs .entry)) i) (epochAt (now (recs .entry)) i) (pastAt (now (recs .entry)) i)) (eqb (counterAt (now (recs .entry)) i) (countB (epochAt (now (recs .entry)) i) (pastAt (now (recs .entry)) i) + 1))) ⌝ }
+    ensures { λ r. ⌜ Follows (now (recs .entry)) i r ⌝ }
 {
     let k = look::latest(recs, i, words::epoch(recs, i));
     if k == 0 {
@@ -70,8 +65,8 @@ fn follows(recs: &[u64], i: usize) -> bool
 
 // Rule 5 at a B of a server that delivered c: is the next transaction of the longest, which it lacks, of an earlier epoch?
 fn lacks(recs: &[u64], space: &[u64], i: usize, c: usize, len: usize) -> bool
-    requires { ⌜ Within (now recs) i × (len ≤ length (now space)) × ((k : ℕ) → k < len → getD (now space) k 0 < i) ⌝ }
-    ensures { λ r. ⌜ r ≡ both (ltb c len) (ltb (epochAt (now (recs .entry)) (getD (now (space .entry)) c 0)) (epochAt (now (recs .entry)) i)) ⌝ }
+    requires { ⌜ Marked (now recs) (now space) i len ⌝ }
+    ensures { λ r. ⌜ r ≡ lacksOf (now (recs .entry)) (now (space .entry)) i c len ⌝ }
 {
     if len <= c {
         return false;
@@ -119,8 +114,8 @@ fn inside(recs: &[u64], at: usize, i: usize, x: usize, s: State) -> Told
 
 // Is record i above the last of the longest?
 fn rises(recs: &[u64], space: &[u64], i: usize, len: usize) -> bool
-    requires { ⌜ Within (now recs) i × (len ≤ length (now space)) × ((k : ℕ) → k < len → getD (now space) k 0 < i) ⌝ }
-    ensures { λ r. ⌜ r ≡ pick (eqb len 0) true (less (entryAt (now (recs .entry)) (getD (now (space .entry)) (len - 1) 0)) (entryAt (now (recs .entry)) i)) ⌝ }
+    requires { ⌜ Marked (now recs) (now space) i len ⌝ }
+    ensures { λ r. ⌜ r ≡ risesOf (now (recs .entry)) (now (space .entry)) i len ⌝ }
 {
     if len == 0 {
         return true;
@@ -132,7 +127,7 @@ fn rises(recs: &[u64], space: &[u64], i: usize, len: usize) -> bool
 // Rules 5 and 6 at a V that makes the longest longer. If a B is of a later epoch, rule 5 is broken, unless rule 6 is and the
 // longest has the transaction already. That is looked for at most once, since the record breaks a rule.
 fn late(recs: &[u64], space: &[u64], i: usize, len: usize, top: u64) -> u8
-    requires { ⌜ Within (now recs) i × (len ≤ length (now space)) × ((k : ℕ) → k < len → getD (now space) k 0 < i) ⌝ }
+    requires { ⌜ Marked (now recs) (now space) i len ⌝ }
     ensures { λ r. ⌜ r ≡ lateOf (now (recs .entry)) (now (space .entry)) i len top ⌝ }
 {
     let e = words::epoch(recs, i);

@@ -1,42 +1,31 @@
-use Rattle.trace.proofs.Walk.{check-few, check-many, check-part, check-long, check-room, check-judged}
 use borrow.Author.Needs.{needs}
+use Rattle.trace.proofs.Walk.{check-few, check-many, check-part, check-long, check-room, check-judged}
 use Rattle.trace.proofs.check.Statement.{statement}
 use Rattle.trace.proofs.check.Tie as tie
-use Rattle.trace.proofs.check.Reads as reads
-use Rattle.trace.proofs.check.Lts as lts
-use Rattle.trace.proofs.judge.Reads as judge-reads
 
--- src/lib.rt:99:9
 returns : tie.Need-returns
-returns c = search (check-few, needs)
+returns c = check-few _ _ _ (c .if1 .taken)
 
--- src/lib.rt:102:9
 returns-2 : tie.Need-returns-2
-returns-2 c = search (check-many, needs)
+returns-2 c = check-many _ _ _ (c .if2 .taken)
 
--- src/lib.rt:106:9
 returns-3 : tie.Need-returns-3
-returns-3 c = search (check-part, needs)
+returns-3 c = check-part _ _ _ (c .if3 .taken)
 
--- src/lib.rt:109:9
 returns-4 : tie.Need-returns-4
-returns-4 c = search (check-long, needs)
+returns-4 c = check-long _ _ _ (c .before .before .before .if1 .left) (c .before .before .if2 .left) (c .if4 .taken)
 
--- src/lib.rt:112:9
 returns-5 : tie.Need-returns-5
-returns-5 c = search (check-room, needs)
+returns-5 c = check-room _ _ _ (c .if5 .taken)
 
--- src/lib.rt:114:5
 judge-requires : tie.Need-judge-requires
 judge-requires c κs = search needs
 
--- src/lib.rt:95:1
 same-length : tie.Need-same-length
 same-length c = search needs
 
--- src/lib.rt:95:1
 returns-6 : tie.Need-returns-6
-returns-6 c = search (check-judged, needs)
+returns-6 c = check-judged _ _ _ (c .before .before .before .before .before .before .before .before .if1 .left) (c .before .before .before .before .before .before .before .if2 .left) (c .before .before .before .before .before .before .if3 .left) (c .before .before .before .before .before .if4 .left) (c .before .before .before .before .if5 .left) (c .before .before .judge .ensures)
 
 pub check-spec : {M : Type 1} → statement M
 check-spec =

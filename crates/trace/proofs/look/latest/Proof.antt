@@ -1,13 +1,10 @@
+use Prim.Native.Nat.{_≤_}
+use mathlib.Core.Path.{_≡_, refl}
 use borrow.Author.Needs.{needs}
 use Rattle.trace.specs.Words.{latestOf}
-use mathlib.Core.Path.{_≡_, refl, sym, ap, _∙_, subst}
-use Prim.Native.Nat.{ℕ, zero, suc, _+_, _-_, _*_, _≤_, _<_}
 use Rattle.trace.proofs.Leaf.{latest-stop, latest-on, latest-end}
 use Rattle.trace.proofs.look.latest.Statement.{statement}
 use Rattle.trace.proofs.look.latest.Tie as tie
-use Rattle.trace.proofs.look.latest.Reads as reads
-use Rattle.trace.proofs.look.latest.Lts as lts
-use Rattle.trace.proofs.look.of_epoch.Reads as of-epoch-reads
 
 abbrev Inv-loop : tie.InvT-loop
 Inv-loop recs i e j₀ j = (j ≤ i) × (latestOf recs e j ≡ latestOf recs e i)
@@ -15,35 +12,27 @@ Inv-loop recs i e j₀ j = (j ≤ i) × (latestOf recs e j ≡ latestOf recs e i
 abbrev μ-loop : tie.MeasureT-loop
 μ-loop recs i e j₀ j = j
 
--- src/look.rt:33:5
 loop-holds : tie.Need-loop-holds Inv-loop μ-loop
 loop-holds c = (search needs, refl)
 
--- src/look.rt:34:27
 sub-of-epoch : tie.Need-sub-of-epoch Inv-loop μ-loop
 sub-of-epoch c = search needs
 
--- src/look.rt:34:12
 of-epoch-requires : tie.Need-of-epoch-requires Inv-loop μ-loop
 of-epoch-requires c κs = search needs
 
--- src/look.rt:35:13
 returns : tie.Need-returns Inv-loop μ-loop
 returns c = search (latest-stop, needs)
 
--- src/look.rt:37:9
 sub-j : tie.Need-sub-j Inv-loop μ-loop
 sub-j c = search needs
 
--- src/look.rt:33:5
 loop-less : tie.Need-loop-less Inv-loop μ-loop
 loop-less c = search needs
 
--- src/look.rt:33:5
 loop-again : tie.Need-loop-again Inv-loop μ-loop
 loop-again c = (search needs, search (latest-on, needs))
 
--- src/look.rt:28:1
 returns-2 : tie.Need-returns-2 Inv-loop μ-loop
 returns-2 c = search (latest-end, needs)
 

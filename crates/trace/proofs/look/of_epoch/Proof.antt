@@ -1,33 +1,23 @@
-use Rattle.trace.proofs.Leaf.{of-e, of-b, of-none}
 use borrow.Author.Needs.{needs}
+use Rattle.trace.proofs.Leaf.{of-e, of-b, of-none}
 use Rattle.trace.proofs.look.of_epoch.Statement.{statement}
 use Rattle.trace.proofs.look.of_epoch.Tie as tie
-use Rattle.trace.proofs.look.of_epoch.Reads as reads
-use Rattle.trace.proofs.look.of_epoch.Lts as lts
-use Rattle.trace.proofs.words.epoch.Reads as epoch-reads
-use Rattle.trace.proofs.words.kind.Reads as kind-reads
 
--- src/look.rt:17:9
 kind-requires : tie.Need-kind-requires
 kind-requires c κs = search needs
 
--- src/look.rt:19:16
 epoch-requires : tie.Need-epoch-requires
 epoch-requires c κs = search needs
 
--- src/look.rt:19:9
 returns : tie.Need-returns
 returns c = search (of-e, needs)
 
--- src/look.rt:22:16
 epoch-requires-2 : tie.Need-epoch-requires-2
 epoch-requires-2 c κs = search needs
 
--- src/look.rt:22:9
 returns-2 : tie.Need-returns-2
 returns-2 c = search (of-b, needs)
 
--- src/look.rt:13:1
 returns-3 : tie.Need-returns-3
 returns-3 c = search (of-none, needs)
 

@@ -1,54 +1,38 @@
-use Prim.Native.Nat.{ℕ, zero, suc, _+_, _-_, _*_, _≤_, _<_}
+use Prim.Native.Nat.{_<_}
 use native.Mathlib.Omega.{arith}
 use borrow.Author.Tests.{not-true, not-false}
-use Rattle.trace.proofs.Laws.{b-two, b-five, b-low, b-top}
 use borrow.Author.Needs.{needs}
+use Rattle.trace.proofs.Laws.{b-two, b-five, b-low, b-top}
 use Rattle.trace.proofs.step.at_b.Statement.{statement}
 use Rattle.trace.proofs.step.at_b.Tie as tie
-use Rattle.trace.proofs.step.at_b.Reads as reads
-use Rattle.trace.proofs.step.at_b.Lts as lts
-use Rattle.trace.proofs.step.follows.Reads as follows-reads
-use Rattle.trace.proofs.step.lacks.Reads as lacks-reads
-use Rattle.trace.proofs.words.epoch.Reads as epoch-reads
-use Rattle.trace.proofs.words.server.Reads as server-reads
 
--- src/step.rt:89:9
 follows-requires : tie.Need-follows-requires
 follows-requires c κs = (c .before .before .pre .0 .here, c .before .before .pre .0 .ct (c .before .before .pre .1))
 
--- src/step.rt:90:9
 returns : tie.Need-returns
 returns c = λ n H g. b-two _ _ _ _ _ H g (c .before .before .before .before .pre .1) (c .before .follows .ensures) (not-true (c .before .follows .result) (c .if1 .taken))
 
--- src/step.rt:92:13
 server-requires : tie.Need-server-requires
 server-requires c κs = search needs
 
--- src/step.rt:93:30
 mul-lacks : tie.Need-mul-lacks
 mul-lacks c = let h : c .server .result < 7 = omega (arith, c .server .ensures, c .before .before .before .before .before .pre .0 .who (λ z. omega (arith, c .before .before .before .before .before .pre .1))) in search needs
 
--- src/step.rt:93:30
 element-copy-out-lacks : tie.Need-element-copy-out-lacks
 element-copy-out-lacks c = omega (arith, c .server .ensures, c .before .before .before .before .before .pre .0 .who (λ z. omega (arith, c .before .before .before .before .before .pre .1)))
 
--- src/step.rt:93:8
 lacks-requires : tie.Need-lacks-requires
 lacks-requires c κs = search needs
 
--- src/step.rt:94:9
 returns-2 : tie.Need-returns-2
 returns-2 c = λ n H g. b-five _ _ _ _ _ H g (c .before .before .before .before .before .before .before .before .pre .1) (c .before .before .before .before .before .follows .ensures) (not-false (c .before .before .before .before .before .follows .result) (c .before .before .before .before .if1 .left)) (c .before .before .before .server .ensures) (omega (arith, c .before .before .before .server .ensures, c .before .before .before .before .before .before .before .before .pre .0 .who (λ z. omega (arith, c .before .before .before .before .before .before .before .before .pre .1)))) (c .before .lacks .ensures) (c .if2 .taken)
 
--- src/step.rt:96:9
 epoch-requires : tie.Need-epoch-requires
 epoch-requires c κs = search needs
 
--- src/step.rt:98:9
 returns-3 : tie.Need-returns-3
 returns-3 c = λ n H g. b-low _ _ _ _ _ H g (c .before .before .before .before .before .before .before .before .before .before .pre .1) (c .before .before .before .before .before .before .before .follows .ensures) (not-false (c .before .before .before .before .before .before .before .follows .result) (c .before .before .before .before .before .before .if1 .left)) (c .before .before .before .before .before .server .ensures) (omega (arith, c .before .before .before .before .before .server .ensures, c .before .before .before .before .before .before .before .before .before .before .pre .0 .who (λ z. omega (arith, c .before .before .before .before .before .before .before .before .before .before .pre .1)))) (c .before .before .before .lacks .ensures) (c .before .before .if2 .left) (c .before .epoch .ensures) (c .if3 .taken)
 
--- src/step.rt:85:1
 returns-4 : tie.Need-returns-4
 returns-4 c = λ n H g. b-top _ _ _ _ _ H g (c .before .before .before .before .before .before .before .before .before .before .pre .1) (c .before .before .before .before .before .before .before .follows .ensures) (not-false (c .before .before .before .before .before .before .before .follows .result) (c .before .before .before .before .before .before .if1 .left)) (c .before .before .before .before .before .server .ensures) (omega (arith, c .before .before .before .before .before .server .ensures, c .before .before .before .before .before .before .before .before .before .before .pre .0 .who (λ z. omega (arith, c .before .before .before .before .before .before .before .before .before .before .pre .1)))) (c .before .before .before .lacks .ensures) (c .before .before .if2 .left) (c .before .epoch .ensures) (c .if3 .left)
 

@@ -1,38 +1,28 @@
+use native.Mathlib.Omega.{arith}
 use borrow.Author.Tests.{lt-ltb}
+use borrow.Author.Needs.{needs}
 use Rattle.base.proofs.Choice.{decide}
 use Rattle.base.specs.Choice.{both}
-use Prim.Native.Nat.{ℕ, zero, suc, _+_, _-_, _*_, _≤_, _<_}
-use native.Mathlib.Omega.{arith}
 use Rattle.trace.proofs.Leaf.{mark-within}
-use borrow.Author.Needs.{needs}
 use Rattle.trace.proofs.step.lacks.Statement.{statement}
 use Rattle.trace.proofs.step.lacks.Tie as tie
-use Rattle.trace.proofs.step.lacks.Reads as reads
-use Rattle.trace.proofs.step.lacks.Lts as lts
-use Rattle.trace.proofs.words.epoch.Reads as epoch-reads
 
--- src/step.rt:78:9
 returns : tie.Need-returns
 unfolding both
 returns c = search (decide, needs)
 
--- src/step.rt:80:14
 mul-at : tie.Need-mul-at
 mul-at c = search needs
 
--- src/step.rt:80:14
 shared-slice-read-at : tie.Need-shared-slice-read-at
 shared-slice-read-at c = search needs
 
--- src/step.rt:81:5
 epoch-requires : tie.Need-epoch-requires
 epoch-requires c κs = mark-within (c .before .before .before .before .args .recs .now) (c .before .before .before .before .args .space .now) (c .before .before .before .before .args .i) (c .before .before .before .before .args .c) (c .before .before .before .before .args .len) (c .before .before .before .before .pre .0) (c .before .before .before .before .pre .2) (omega arith)
 
--- src/step.rt:81:30
 epoch-requires-2 : tie.Need-epoch-requires-2
 epoch-requires-2 c κs = search needs
 
--- src/step.rt:73:1
 returns-2 : tie.Need-returns-2
 unfolding both
 returns-2 c = rw (c .before .epoch .ensures, c .epoch2 .ensures, lt-ltb (c .before .before .before .before .before .before .args .c) (c .before .before .before .before .before .before .args .len) (omega arith))
