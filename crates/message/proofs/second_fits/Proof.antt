@@ -1,0 +1,38 @@
+use Prim.Native.Nat.{ℕ, zero, suc, _+_, _-_, _*_, _≤_, _<_}
+use mathlib.Core.Path.{_≡_, refl, sym, ap, _∙_}
+use mathlib.Core.Bool.{Bool, true, false, not}
+use mathlib.Core.Logic.{_≢_, ⊎-elim, _⊎_, inl, inr}
+use mathlib.Core.List.{List, [], _∷_, _++_}
+use native.Mathlib.Omega.{arith}
+use native.Mathlib.Numerals.{add-one}
+use lib.Dec.{eqb, leb, ltb}
+use lib.ListN.{length, take, drop, getD, set, length-set}
+use denote.Ref.{now}
+use Rattle.base.specs.Choice.{pick, both, either}
+use Rattle.base.proofs.Choice.{decide}
+use Rattle.rules.specs.Message.{positive}
+use Rattle.rules.specs.Words.{second, laden}
+use Rattle.message.specs.Reads.{placed, counted, ranged}
+use borrow.Author.Needs.{needs}
+use Rattle.message.proofs.second_fits.Statement.{statement}
+use Rattle.message.proofs.second_fits.Tie as tie
+use Rattle.message.proofs.second_fits.Reads as reads
+use Rattle.message.proofs.second_fits.Lts as lts
+
+-- src/lib.rt:23:9
+returns : tie.Need-returns
+unfolding placed second either
+returns c = search (decide, needs)
+
+-- src/lib.rt:26:9
+returns-2 : tie.Need-returns-2
+unfolding placed second either
+returns-2 c = search (decide, needs)
+
+-- src/lib.rt:19:1
+returns-3 : tie.Need-returns-3
+unfolding placed second either
+returns-3 c = search (decide, needs)
+
+pub second-fits-spec : {M : Type 1} → statement M
+second-fits-spec = tie.close (tie.spec returns returns-2 returns-3)
