@@ -1,0 +1,93 @@
+/* One server's step, proved; a host keeps its bytes and carries its messages. */
+#ifndef ZAB_H
+#define ZAB_H
+
+#include <stddef.h>
+#include <stdint.h>
+
+/* Sizes. Every number in a lent slice is a word: eight bytes, the lowest first. `room` is how many
+   transactions a history holds, 1 to ZAB_MOST_ROOM; there are 3 to ZAB_MOST_SERVERS servers. */
+enum {
+    ZAB_MOST_SERVERS = 7,
+    ZAB_MOST_ROOM = 64,
+    ZAB_WORD = 8,                  /* bytes of a word */
+    ZAB_RECORD_WORDS = 38,
+    ZAB_RECORD = 8 * 38,           /* bytes of a record */
+    ZAB_TOLD = 2,                  /* bytes of what is told */
+    ZAB_SLOTS = 6                  /* slots of an outbox that a step may write */
+};
+
+/* Bytes of a history or a candidate, of a message, of an outbox slot (the receiver, then the message), of an outbox. */
+#define ZAB_HISTORY_BYTES(room) (16 * (size_t)(room))
+#define ZAB_MESSAGE_BYTES(room) (8 * (4 + 2 * (size_t)(room)))
+#define ZAB_SLOT_BYTES(room) (8 * (5 + 2 * (size_t)(room)))
+#define ZAB_OUTBOX_BYTES(room) (ZAB_SLOTS * ZAB_SLOT_BYTES(room))
+
+/* The words of a record, by place. A fresh record has the server's own number at ZAB_ME and is zero elsewhere. */
+enum {
+    ZAB_ME = 0,                    /* the server's number, from 0 */
+    ZAB_STAGE = 1,                 /* LOOK 0, F1 to F4 1 to 4, L1 to L4 5 to 8 */
+    ZAB_ORACLE = 2,                /* 0: none; else the server named, plus 1 */
+    ZAB_P = 3,                     /* promised epoch */
+    ZAB_A = 4,                     /* accepted epoch */
+    ZAB_D = 5,                     /* how many transactions are delivered */
+    ZAB_LEN = 6,                   /* how many the history holds */
+    ZAB_LARGEST = 7,
+    ZAB_CAND_A = 8,
+    ZAB_CAND_LEN = 9,
+    ZAB_JOINED = 10,               /* seven words each, a set: 0 or 1 for each server */
+    ZAB_ACKED = 17,
+    ZAB_SYNCED = 24,
+    ZAB_COUNTS = 31                /* seven words */
+};
+
+/* Events. */
+enum zab_event {
+    ZAB_ON_ORACLE = 1,             /* `who` is named leader */
+    ZAB_ON_RESTART = 2,
+    ZAB_ON_DELIVERY = 3,           /* `msg` arrives from `who` */
+    ZAB_ON_SUBMISSION = 4          /* `value` is submitted */
+};
+
+/* Refusals; 0 is none. The step itself answers 0 to 11; ROOM and TRACE are for hosts and checkers. */
+enum zab_refusal {
+    ZAB_STATE = 1,                 /* a length, a size or the record is not well formed */
+    ZAB_EVENT = 2,
+    ZAB_MESSAGE = 3,
+    ZAB_ROLE = 4,
+    ZAB_SENDER = 5,
+    ZAB_PHASE = 6,
+    ZAB_EPOCH = 7,
+    ZAB_GAP = 8,
+    ZAB_UNDO = 9,
+    ZAB_FULL = 10,
+    ZAB_SPENT = 11,
+    ZAB_ROOM = 12,
+    ZAB_TRACE = 13
+};
+
+/* One step of one server.
+
+   Reads: n, room; record (ZAB_RECORD bytes), hist and cand (ZAB_HISTORY_BYTES(room) bytes each); event, one of
+   enum zab_event; who, for an oracle's word the server named, for a delivery the sender; value, for a submission;
+   msg (ZAB_MESSAGE_BYTES(room) bytes), for a delivery alone, else it is not looked at.
+
+   Writes, where it returns 0: record, hist and cand; the first told[0] slots of out (out_len at least
+   ZAB_OUTBOX_BYTES(room) bytes and a whole number of words), each the receiver and the message; told (ZAB_TOLD bytes):
+   how many messages stand in out, and 1 if the host is to drop what waits to and from this server, else 0.
+   Where it does not return 0, nothing is written at all.
+
+   Returns 0, or a number of enum zab_refusal: ZAB_STATE too where a length is not as said here.
+
+   No pointer may be null, also where its length is 0, and no two of record, hist, cand, msg, out and told may
+   overlap. Nothing is kept after the call. */
+uint8_t zab_step(uint8_t n, uint32_t room,
+                 uint8_t *record, size_t record_len,
+                 uint8_t *hist, size_t hist_len,
+                 uint8_t *cand, size_t cand_len,
+                 uint8_t event, uint8_t who, uint64_t value,
+                 const uint8_t *msg, size_t msg_len,
+                 uint8_t *out, size_t out_len,
+                 uint8_t *told, size_t told_len);
+
+#endif
