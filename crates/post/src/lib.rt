@@ -2,12 +2,14 @@
 use base::Sizes;
 use ring::Rings;
 ghost use mathlib.Core.Path.{_≡_};
+ghost use mathlib.Core.Bool.{Bool, true, false};
 ghost use mathlib.Core.List.{List};
 ghost use Prim.Native.Nat.{ℕ, _+_, _*_, _≤_, _<_};
 ghost use lib.ListN.{length, take, drop};
-ghost use Rattle.rules.specs.Words.{slotSize};
-ghost use Rattle.ring.specs.Queue.{cell, count, Ringed, Pushed};
+ghost use Rattle.rules.specs.Words.{slotSize, has};
+ghost use Rattle.ring.specs.Queue.{cell, count, goodRings, Ringed, Chan, Pushed};
 ghost use Rattle.post.specs.Posts.{toAt, wordsAt, Ready, Posted};
+ghost use Rattle.post.specs.Room.{hit, due, fits};
 
 // The message in slot k of the outbox, put behind what waits from i to its receiver.
 fn post_one(z: Sizes, depth: u8, r: Rings, queue: &mut [u64], i: u8, out: &[u64], k: usize) -> Rings
@@ -34,4 +36,56 @@ pub fn post(z: Sizes, depth: u8, r: Rings, queue: &mut [u64], i: u8, out: &[u64]
         k += 1;
     }
     s
+}
+
+// Whether a message goes to t: it is another of the set.
+fn hit(i: u8, q: [bool; 7], t: u8) -> u8
+    requires { ⌜ t < 7 ⌝ }
+    ensures { λ k. ⌜ (k ≡ hit i (has q) t) × (k ≤ 1) ⌝ }
+{
+    if t == i {
+        return 0;
+    }
+    let j = t as usize;
+    if q[j] {
+        return 1;
+    }
+    0
+}
+
+// How many would wait from i to t after a cast to each of two sets.
+fn due(z: Sizes, r: Rings, i: u8, empties: bool, one: [bool; 7], two: [bool; 7], t: u8) -> u8
+    requires { ⌜ (z .n ≤ 7) × ((Chan z i t) × (count r (cell (z .n) i t) ≤ 16)) ⌝ }
+    ensures { λ k. ⌜ k ≡ due z r i empties one two t ⌝ }
+{
+    let a = hit(i, one, t);
+    let b = hit(i, two, t);
+    if empties {
+        return a + b;
+    }
+    let c = ring::channel(z, i, t);
+    r.counts[c] + (a + b)
+}
+
+// Whether there is room for a cast to each of two sets, before anything is written.
+pub fn has_room(
+    z: Sizes,
+    depth: u8,
+    r: Rings,
+    i: u8,
+    empties: bool,
+    one: [bool; 7],
+    two: [bool; 7],
+) -> bool
+    requires { ⌜ (z .n ≤ 7) × ((depth ≤ 16) × ((goodRings depth r ≡ true) × (i < z .n))) ⌝ }
+    ensures { λ b. ⌜ b ≡ fits z depth r i empties one two ⌝ }
+{
+    let mut t: u8 = 0;
+    while t < z.n {
+        if depth < due(z, r, i, empties, one, two, t) {
+            return false;
+        }
+        t += 1;
+    }
+    true
 }

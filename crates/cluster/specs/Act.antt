@@ -1,0 +1,39 @@
+-- An event at one server of the cluster: the rules' answer, unless a channel would pass its depth.
+use Prim.Native.Nat.{ℕ, zero, suc, _+_, _≤_, _<_}
+use mathlib.Core.Path.{_≡_}
+use mathlib.Core.Bool.{Bool, true, false, not}
+use mathlib.Core.List.{List, [], _∷_}
+use lib.Dec.{eqb, leb}
+use Rattle.base.specs.Choice.{pick, both, either, allBelow}
+use Rattle.base.specs.Refusals.{ROOM}
+use Rattle.base.specs.declared.Sizes.{Sizes}
+use Rattle.rules.specs.declared.State.{State}
+use Rattle.rules.specs.Message.{Send}
+use Rattle.rules.specs.Tree.{Res, refused, taken}
+use Rattle.ring.specs.declared.Rings.{Rings}
+use Rattle.ring.specs.Queue.{cell, count, goodRings}
+use Rattle.post.specs.Room.{fits}
+use Rattle.plan.specs.declared.Plan.{Plan}
+use Rattle.server.specs.declared.Event.{Event}
+use Rattle.server.specs.declared.Answer.{Answer}
+use Rattle.server.specs.Whole.{answerOf, Known, Out, stay, written, Does}
+use Rattle.post.specs.Room.{howMany}
+
+-- is there room for what is sent? a refusal sends nothing
+unfoldable pub roomFor : Sizes → ℕ → Rings → ℕ → Res → Bool
+roomFor z depth r i (refused k) = true
+roomFor z depth r i (taken b s out) = allBelow (z .n) (λ t. leb (pick b 0 (count r (cell (z .n) i t)) + howMany out t) depth)
+
+-- the same of a plan
+unfoldable pub maySend : Sizes → ℕ → Rings → ℕ → Plan → Bool
+maySend z depth r i p = either (not (eqb (p .code) 0)) (fits z depth r i (p .empties) (p .one .to) (p .two .to))
+
+-- all that it leaves: ROOM leaves every word as it was
+unfoldable pub acted : Sizes → ℕ → Rings → State → List ℕ → List ℕ → List ℕ → Res → Out
+acted z depth r s h k o x = pick (roomFor z depth r (s .me) x) (written z s h k o x) (stay ROOM s h k o)
+
+pub record Set (z : Sizes) (depth : ℕ) (r : Rings) (s : State) : Type 0 where
+  pub few : z .n ≤ 7
+  pub deep : depth ≤ 16
+  pub rings : goodRings depth r ≡ true
+  pub me : s .me < z .n
