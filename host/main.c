@@ -41,15 +41,40 @@ static void drop(int i)
         waiting[i][j] = waiting[j][i] = 0;
 }
 
+/* What happens, for the checker: who enters L4, what is submitted, what is delivered. */
+static uint8_t trace[64][ZAB_TRACE_RECORD];
+static size_t records;
+
+static void note(uint8_t kind, int i, uint64_t epoch, uint64_t counter, uint64_t value)
+{
+    const uint64_t words[] = {kind, (uint64_t)i, epoch, counter, value};
+    for (size_t k = 0; k < sizeof trace[0]; k++)
+        trace[records][k] = (uint8_t)(words[k / ZAB_WORD] >> 8 * (k % ZAB_WORD));
+    records++;
+}
+
+static void note_entry(uint8_t kind, int i, size_t place)
+{
+    uint64_t id = word(hist[i], 2 * place);
+    note(kind, i, id >> 32, id & 0xffffffff, word(hist[i], 2 * place + 1));
+}
+
 /* A step of cabinet i, and what it sends put into the channels. */
 static uint8_t step(int i, uint8_t event, int who, uint64_t value, const uint8_t *msg)
 {
     size_t msg_len = event == ZAB_ON_DELIVERY ? ZAB_MESSAGE_BYTES(ROOM) : 0;
+    uint64_t stage = word(record[i], ZAB_STAGE), d = word(record[i], ZAB_D);
     uint8_t code = zab_step(N, ROOM, record[i], sizeof record[i], hist[i], sizeof hist[i],
                             cand[i], sizeof cand[i], event, (uint8_t)who, value, msg, msg_len,
                             out, sizeof out, told, sizeof told);
     if (code != 0)
         return code;
+    if (stage != 8 && word(record[i], ZAB_STAGE) == 8)
+        note(1, i, word(record[i], ZAB_P), 0, 0);
+    if (event == ZAB_ON_SUBMISSION)
+        note_entry(2, i, word(record[i], ZAB_LEN) - 1);
+    for (; d < word(record[i], ZAB_D); d++)
+        note_entry(3, i, d);
     if (told[1])
         drop(i);
     for (size_t k = 0; k < told[0]; k++)
@@ -128,6 +153,13 @@ int main(void)
     submit(1, 90);
     settle();
     show();
+
+    uint8_t place[ZAB_PLACE] = {0};
+    printf("a trace of %zu records: %u\n", records, zab_check(N, trace[0], records * sizeof trace[0], place, sizeof place));
+    records--;
+    note(3, 2, 1, 3, 31);
+    uint8_t rule = zab_check(N, trace[0], records * sizeof trace[0], place, sizeof place);
+    printf("with another last limit: rule %u at record %llu\n", rule, (unsigned long long)word(place, 0));
 
     printf("an unknown event: %u\n", step(0, 9, 0, 0, none));
     printf("a short record: %u\n", zab_step(N, ROOM, record[0], ZAB_RECORD - 1, hist[0], sizeof hist[0],

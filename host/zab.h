@@ -90,4 +90,23 @@ uint8_t zab_step(uint8_t n, uint32_t room,
                  uint8_t *out, size_t out_len,
                  uint8_t *told, size_t told_len);
 
+/* A record of a trace is ZAB_TRACE_RECORD bytes, five words: the kind (E 1, B 2, V 3, X 4), the server (of an X the
+   line), the epoch (of an X the refusal), the counter, the value; what a kind does not have is not looked at. */
+enum {
+    ZAB_TRACE_RECORD = 8 * 5,
+    ZAB_TRACE_MOST = 1024,         /* records of a trace */
+    ZAB_PLACE = 8                  /* bytes of a place */
+};
+
+/* The trace checker.
+
+   Reads: n; recs, the records of the trace one after the other. Writes: nothing, but where it returns 1 to 6 the place of
+   the record, from 0, as one word into told (ZAB_PLACE bytes).
+
+   Returns 0 if the trace keeps the six rules; 1 to 6, the lowest rule that is broken at the first record at which one is;
+   ZAB_TRACE for a malformed record, n outside 3 to 7, over ZAB_TRACE_MOST records, or a length not as said here.
+
+   No pointer may be null, and the two may not overlap. */
+uint8_t zab_check(uint32_t n, const uint8_t *recs, size_t recs_len, uint8_t *told, size_t told_len);
+
 #endif

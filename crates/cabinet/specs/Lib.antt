@@ -1,1 +1,2 @@
 pub mod Zab
+pub mod Trace

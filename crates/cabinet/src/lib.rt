@@ -1,15 +1,19 @@
-// What a C host calls: one step of a server, its record, its histories and the messages in lent bytes.
+// What a C host calls: one step of a server, its record, its histories and the messages in lent bytes; and the trace checker.
 use base::Place;
 use base::Sizes;
 use rules::State;
 use server::Answer;
 use server::Event;
+use trace::Verdict;
 ghost use mathlib.Core.Path.{_≡_};
-ghost use Prim.Native.Nat.{_≤_};
+ghost use mathlib.Core.List.{[], _∷_};
+ghost use Prim.Native.Nat.{_*_, _≤_};
 ghost use lib.ListN.{length};
-ghost use Rattle.octets.specs.Bytes.{wordsOf};
+ghost use Rattle.octets.specs.Bytes.{wordsOf, bytesOf};
 ghost use Rattle.octets.specs.Record.{bit};
 ghost use Rattle.server.specs.Whole.{stepOf};
+ghost use Rattle.trace.specs.Meaning.{meant, verdict};
+ghost use Rattle.cabinet.specs.Trace.{checkOf, Judges};
 ghost use Rattle.cabinet.specs.Zab.{sized, slotted, lentWords, eventOf, Lent, wordStep, Steps, zabOf, Does};
 
 // The event that a number names.
@@ -180,4 +184,51 @@ pub extern "C" fn zab_step(
     told[0] = a.sent as u8;
     told[1] = bit_byte(a.empties);
     0
+}
+
+// What the checker says of the first k words of the bytes.
+fn verdict_of(n: u32, recs: &[u8], k: usize) -> Verdict
+    requires { ⌜ (8 * k ≤ length (now recs)) × (k ≤ 5120) ⌝ }
+    ensures { λ r. ⌜ meant r ≡ verdict n (wordsOf k (now (recs .entry))) 1024 ⌝ }
+{
+    let mut w = [0u64; 5120];
+    let mut s = [0u64; 1024];
+    octets::load(recs, &mut w, k);
+    trace::check(n, &w[0..k], &mut s)
+}
+
+// A record's place into eight lent bytes, the lowest first.
+fn tell(told: &mut [u8], place: u32)
+    requires { ⌜ length (now told) ≡ 8 ⌝ }
+    ensures { λ r. ⌜ now (told .exit) ≡ bytesOf (place ∷ []) ⌝ }
+{
+    let x = place as u64;
+    let w = [x];
+    octets::save(&w, told, 1);
+}
+
+// The trace checker on lent bytes: 0 if the trace keeps the rules; the rule that is broken first, 1 to 6, its record's place
+// then in `told`; or 13.
+#[no_mangle]
+pub extern "C" fn zab_check(n: u32, recs: &[u8], told: &mut [u8]) -> u8
+    ensures { λ r. ⌜ Judges (checkOf n (now (recs .entry)) (now (told .entry))) r (now (told .exit)) ⌝ }
+{
+    if told.len() != 8 {
+        return 13;
+    }
+    let len = recs.len();
+    if 40960 < len {
+        return 13;
+    }
+    if len % 8 != 0 {
+        return 13;
+    }
+    match verdict_of(n, recs, len / 8) {
+        Verdict::Keeps => 0,
+        Verdict::Breaks(place, rule) => {
+            tell(told, place);
+            rule
+        }
+        Verdict::Refused => 13,
+    }
 }
