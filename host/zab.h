@@ -23,7 +23,8 @@ enum {
 #define ZAB_SLOT_BYTES(room) (8 * (5 + 2 * (size_t)(room)))
 #define ZAB_OUTBOX_BYTES(room) (ZAB_SLOTS * ZAB_SLOT_BYTES(room))
 
-/* The words of a record, by place. A fresh record has the server's own number at ZAB_ME and is zero elsewhere. */
+/* The words of a record, by place, with nothing between them. The record's size is the version of this layout: another
+   layout will have another size, and a record of another size is refused. A fresh record has the server's own number at ZAB_ME and is zero elsewhere. */
 enum {
     ZAB_ME = 0,                    /* the server's number, from 0 */
     ZAB_STAGE = 1,                 /* LOOK 0, F1 to F4 1 to 4, L1 to L4 5 to 8 */
