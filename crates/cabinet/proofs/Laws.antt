@@ -22,7 +22,7 @@ use Rattle.server.specs.declared.Answer.{Answer}
 use Rattle.server.specs.declared.Event.{Event}
 use Rattle.server.specs.Whole.{Out, stepOf, Does as WordsDo}
 use Rattle.cabinet.proofs.Few.{sent-few}
-use Rattle.cabinet.specs.Zab.{histSize, boxSize, eventOf, lentWords, sized, slotted, sizes, wordStep, answered, zabOf, Does, Lent, Steps}
+use Rattle.cabinet.specs.Zab.{histSize, boxSize, eventOf, lentWords, sized, slotted, sizes, wordStep, After, answered, zabOf, Does, Lent, Steps}
 
 -- ---- words lent of an array that holds n words of the bytes b
 
@@ -198,3 +198,9 @@ module _ (n room event who value : ℕ) (b h k m o t : List ℕ) (x : Bool) (ex 
               box = rw u at (d .box);
               told = told-two t (a .sent) z (i .told) ∙ rw (ez, d .sent, d .empties);
             })
+
+-- two results that meet the statement are equal, and so is every byte
+pub one-result : (x : After) (r r′ : ℕ) (b h k o t b′ h′ k′ o′ t′ : List ℕ) → Does x r b h k o t → Does x r′ b′ h′ k′ o′ t′
+    → (r ≡ r′) × ((b ≡ b′) × ((h ≡ h′) × ((k ≡ k′) × ((o ≡ o′) × (t ≡ t′)))))
+one-result x r r′ b h k o t b′ h′ k′ o′ t′ p q =
+    (p .code ∙ sym (q .code), (p .rec ∙ sym (q .rec), (p .hist ∙ sym (q .hist), (p .cand ∙ sym (q .cand), (p .box ∙ sym (q .box), p .told ∙ sym (q .told))))))

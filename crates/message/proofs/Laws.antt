@@ -49,9 +49,9 @@ module _ (H : ℕ) (w : List ℕ) where
   pub tidy-fits : (b : Bool) → b ≡ tidy H w → b ≡ true → 1 ≤ H → H ≤ 64 → length w ≡ msgSize H → (6 ≤ length w) × ((4 + 2 * word w 3 ≤ length w) × (word w 3 ≤ 64))
   tidy-fits b q f g h l = let k = tidy-room (sym q ∙ f) in (omega arith, (omega arith, omega arith))
 
--- all from word 4 on
-pub part-all : (v : List ℕ) → take (length v - 4) (drop 4 v) ≡ drop 4 v
-part-all v = take-all (length v - 4) (drop 4 v) (omega (arith, length-drop 4 v))
+-- the part of a slice from word n on
+pub part-all : (n : ℕ) (v : List ℕ) → take (length v - n) (drop n v) ≡ drop n v
+part-all n v = take-all (length v - n) (drop n v) (omega (arith, length-drop n v))
 
 -- ---- numbers in range
 

@@ -9,7 +9,8 @@ use lib.Seq.{drop-drop, take-at, drop-at, set-split, length-take-le}
 use borrow.Author.Tests.{lt-ltb, le-ltb, ltb-true, ltb-false}
 use Rattle.base.specs.Choice.{pick}
 use Rattle.base.proofs.Choice.{case, pick-at}
-use Rattle.script.specs.Text.{digitsIn, digits, spaced, ending, two, four, header, put, Wrote}
+use Rattle.rules.specs.Words.{put}
+use Rattle.script.specs.Text.{digitsIn, digits, spaced, ending, two, four, header, Wrote}
 
 -- ---- digits
 
@@ -65,19 +66,17 @@ put-put q a b at h =
     let n = at + length a in
     let p = take at q ++ a in
     let rest = drop n q in
-    let whole = take at q ++ (a ++ rest) in
-    let ex : whole ≡ p ++ rest = sym (append-assoc (take at q) a rest) in
     let len : length p ≡ n = simp (length-append, length-take-le at q h) in
-    let e1 : take n whole ≡ p = ap (take n) ex ∙ take-at p rest n len in
     let num : n + length b ≡ at + length (a ++ b) = simp length-append (omega arith) in
-    let e2 : drop (n + length b) whole ≡ drop (at + length (a ++ b)) q =
-    sym (drop-drop (length b) n whole) ∙ (ap (drop (length b)) (ap (drop n) ex ∙ drop-at p rest n len) ∙ (drop-drop (length b) n q ∙ ap (λ (k : ℕ). drop k q) num)) in
-    (λ i. e1 i ++ (b ++ e2 i)) ∙ simp append-assoc
+    let e1 : take n (p ++ rest) ≡ p = take-at p rest n len in
+    let e2 : drop (n + length b) (p ++ rest) ≡ drop (at + length (a ++ b)) q =
+    sym (drop-drop (length b) n (p ++ rest)) ∙ (ap (drop (length b)) (drop-at p rest n len) ∙ (drop-drop (length b) n q ∙ ap (λ (k : ℕ). drop k q) num)) in
+    (λ i. e1 i ++ b ++ e2 i) ∙ ap (λ (x : List ℕ). x ++ drop (at + length (a ++ b)) q) (append-assoc (take at q) a b)
 
 pub wrote-one : (q : List ℕ) (at v : ℕ) → at < length q → Wrote q at (v ∷ []) (at + 1) (set q at v)
 unfolding put
 wrote-one q at v h = let e : suc at ≡ at + 1 = omega arith in
-    record { ends = omega arith; bytes = set-split q at v h ∙ ap (λ (k : ℕ). take at q ++ (v ∷ drop k q)) e }
+    record { ends = omega arith; bytes = set-split q at v h ∙ ap (λ (k : ℕ). take at q ++ (v ∷ drop k q)) e ∙ sym (append-assoc (take at q) (v ∷ []) (drop (at + 1) q)) }
 
 pub wrote-then : (q q1 q2 a b : List ℕ) (at e r : ℕ) → at ≤ length q → Wrote q at a e q1 → Wrote q1 e b r q2 → Wrote q at (a ++ b) r q2
 wrote-then q q1 q2 a b at e r h x y = record {

@@ -3,9 +3,10 @@ use Prim.Native.Nat.{ℕ, zero, suc, _+_, _/_, _%_}
 use mathlib.Core.Path.{_≡_}
 use mathlib.Core.List.{List, [], _∷_, _++_}
 use lib.Dec.{ltb}
-use lib.ListN.{length, take, drop}
+use lib.ListN.{length}
 use Rattle.base.specs.Choice.{pick}
 use Rattle.base.specs.Record.{Rec, E, B, «V», X}
+use Rattle.rules.specs.Words.{put}
 use Rattle.script.specs.declared.Note.{Note}
 use Rattle.script.specs.declared.Note.the-variants.{Enters, Takes, Delivers, Refuses}
 
@@ -47,10 +48,6 @@ recOf (Enters s e) = E s e
 recOf (Takes s e c v) = B s (record { ep = e; ct = c; vl = v })
 recOf (Delivers s e c v) = «V» s (record { ep = e; ct = c; vl = v })
 recOf (Refuses line refusal) = X line refusal
-
--- q, with what stands from at on replaced by ws
-unfoldable pub put : List ℕ → ℕ → List ℕ → List ℕ
-put q at ws = take at q ++ (ws ++ drop (at + length ws) q)
 
 -- ws was written into q at `at`: its new end, and all bytes afterwards
 pub record Wrote (q : List ℕ) (at : ℕ) (ws : List ℕ) (end : ℕ) (q′ : List ℕ) : Type 0 where

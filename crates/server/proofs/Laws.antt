@@ -361,10 +361,6 @@ pub reads-ready : (z : Sizes) (s : State) (f : ℕ) (h k m : List ℕ) → Can z
 unfolding lentLen
 reads-ready z s f h k m c = let y = sized z (c .sizes) in (y .some, (y .room, eqb-true _ _ (c .words)))
 
--- the part of a slice from word n on
-pub part-all : (n : ℕ) (m : List ℕ) → take (length m - n) (drop n m) ≡ drop n m
-part-all n m = take-all (length m - n) (drop n m) (omega (arith, length-drop n m))
-
 pub load-fits : (z : Sizes) (s : State) (ev : Event) (h k m : List ℕ) → Can z s ev h k m → (loadAt ev ≤ length m) × (loadAt ev ≤ 4)
 unfolding loadAt lentLen
 load-fits z s (Oracle x) h k m c = (omega arith, omega arith)

@@ -66,11 +66,11 @@ cast-t20-2 c = search needs
 
 -- src/lib.rt:125:9
 returns-3 : tie.Need-returns-3
-returns-3 c = λ z h. let m = c .before .before .before .before .before .before .before .before .before .args .m .now in let k : getD m 2 0 < getD m 1 0 = search needs in let q = rw (part-all m) at (c .before .rises .ensures) in search (acke-told, needs)
+returns-3 c = λ z h. let m = c .before .before .before .before .before .before .before .before .before .args .m .now in let k : getD m 2 0 < getD m 1 0 = search needs in let q = rw (part-all 4 m) at (c .before .rises .ensures) in search (acke-told, needs)
 
 -- src/lib.rt:108:1
 returns-4 : tie.Need-returns-4
-returns-4 c = λ z h. let q = rw (part-all (c .before .before .before .before .before .before .before .before .before .args .m .now)) at (c .before .rises .ensures) in search (acke-bad, needs)
+returns-4 c = λ z h. let q = rw (part-all 4 (c .before .before .before .before .before .before .before .before .before .args .m .now)) at (c .before .rises .ensures) in search (acke-bad, needs)
 
 pub read-acke-spec : {M : Type 1} → statement M
 read-acke-spec =

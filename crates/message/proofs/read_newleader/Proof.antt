@@ -58,11 +58,11 @@ cast-t17 c = search needs
 
 -- src/lib.rt:146:9
 returns-3 : tie.Need-returns-3
-returns-3 c = λ z h. let q = rw (part-all (c .before .before .before .before .before .before .before .before .args .m .now)) at (c .before .rises .ensures) in search (newleader-told, needs)
+returns-3 c = λ z h. let q = rw (part-all 4 (c .before .before .before .before .before .before .before .before .args .m .now)) at (c .before .rises .ensures) in search (newleader-told, needs)
 
 -- src/lib.rt:131:1
 returns-4 : tie.Need-returns-4
-returns-4 c = λ z h. let q = rw (part-all (c .before .before .before .before .before .before .before .before .args .m .now)) at (c .before .rises .ensures) in search (newleader-bad, needs)
+returns-4 c = λ z h. let q = rw (part-all 4 (c .before .before .before .before .before .before .before .before .args .m .now)) at (c .before .rises .ensures) in search (newleader-bad, needs)
 
 pub read-newleader-spec : {M : Type 1} → statement M
 read-newleader-spec =

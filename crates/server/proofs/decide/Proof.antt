@@ -11,7 +11,7 @@ use denote.Ref.{now}
 use Rattle.server.specs.Whole.{answerOf, loadAt, lentLen, Can, Known, Decides, Steps, Does, stepOf}
 use Rattle.rules.specs.Words.{msgSize}
 use lib.ListN.{length-drop}
-use Rattle.server.proofs.Laws.{facts, Facts, sized-of, delivery-unknown, delivery-self, delivery-heard, on-oracle, on-restart, on-submit, on-unknown, on-deliver, may, carried, stood, state-not, lent-not, box-not, known-of, step-does, reads-ready, part-all, load-fits, can-deliver, not-yes, not-no, room-of, No}
+use Rattle.server.proofs.Laws.{facts, Facts, sized-of, delivery-unknown, delivery-self, delivery-heard, on-oracle, on-restart, on-submit, on-unknown, on-deliver, may, carried, stood, state-not, lent-not, box-not, known-of, step-does, reads-ready, load-fits, can-deliver, not-yes, not-no, room-of, No}
 use borrow.Author.Needs.{needs}
 use Rattle.server.proofs.decide.Statement.{statement}
 use Rattle.server.proofs.decide.Tie as tie
