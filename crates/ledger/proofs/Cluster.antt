@@ -16,11 +16,11 @@ use Rattle.rules.specs.Tree.{Res, refused, taken, run}
 use Rattle.rules.specs.Step.{onOracle, onRestart, onCepoch, onNewepoch, onAcke, onNewleader, onAckld, onCommit, onPropose, onAck, mine, receive, Input, oracle, restart, message, submit, step}
 use Rattle.rules.specs.Cluster.{Channels, Cluster, start, Event, O, R, D, S, emptied, post, roomy, Outcome, told, done, drops, answer, at, hand, event, after, play}
 use Rattle.ledger.proofs.Ghost.{Ghost, Good, Grow}
-use Rattle.ledger.proofs.Grow.{grow-refl, grow-trans}
+use Rattle.ledger.proofs.Grow.{grow-refl, grow-trans, only-refl}
 use Rattle.rules.proofs.Table.{cepoch-in, newepoch-in, acke-in, newleader-in, ackld-in, commitld-in, propose-in, ack-in, commit-in}
 use Rattle.rules.proofs.Trees.{Answers, run-leaves, gate-leaves, All, all-append, all-map}
 use Rattle.ledger.proofs.Claims.{MsgOk, msg-up, Lands, lands-map, lands-up, SrvOk, srv-up}
-use Rattle.ledger.proofs.Done.{SendOk, Deed, Done, Ok, low-ok, l1-ok, keep}
+use Rattle.ledger.proofs.Done.{SendOk, Deed, rests, Done, Ok, low-ok, l1-ok, keep}
 use Rattle.ledger.proofs.Follower.{newepoch-ok, newleader-ok, propose-ok, commit-ok}
 use Rattle.ledger.proofs.Leader.{cepoch-ok, acke-ok, ackld-ok, ack-ok, submit-ok}
 
@@ -48,9 +48,20 @@ module _ (z : Sizes) (g : Ghost) (G : Good (z .n) g) (i : ℕ) (s : Server) (C :
     λ _. keep (z .n) g G i s C _ _ _ (low-ok (z .n) g i _ (omega arith) (C .dur)) (λ e _. clash refl e) (λ w. absurd (omega arith)) (omega arith) ((tt, tt), tt),
   )
 
+  -- its channels were emptied: whatever its stage was, no NEWLEADER waits for it
   restart-ok : Ok (z .n) false g i s (onRestart s)
   unfolding onRestart
-  restart-ok = keep (z .n) g G i s C _ _ _ (low-ok (z .n) g i _ (omega arith) (C .dur)) (λ e _. clash refl e) (λ w. absurd (omega arith)) (omega arith) tt
+  restart-ok = record {
+    g′ = g;
+    good = G;
+    grow = grow-refl g;
+    only = only-refl i g;
+    srv = low-ok (z .n) g i _ (omega arith) (C .dur);
+    quiet = λ e _. clash refl e;
+    more = omega arith;
+    deed = rests (record { unasked = refl; stays = λ w. absurd (omega arith); est = λ _. refl; own = λ _. refl });
+    sent = tt;
+  }
 
   -- the table's tests, then the step of the kind
   receive-ok : (f : ℕ) (m : Msg) → MsgOk (z .n) g f i m → (s .stage ≤ F2 → Lands g i m) → Ok (z .n) false g i s (receive z i f m s)

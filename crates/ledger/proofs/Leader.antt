@@ -34,10 +34,7 @@ use Rattle.ledger.proofs.Follower.{promise-dur, promise-report, Holds, 
 -- the greater pair: the epoch first, then the last identifier
 pub beats-true : (a x b y : ℕ) → beats a x b y ≡ true → (b < a) ⊎ ((b ≡ a) × (y < x))
 unfolding beats
-beats-true a x b y e = ⊎-elim
-    (λ (l : ltb b a ≡ true). inl (omega tests))
-    (λ (r : both (eqb a b) (ltb y x) ≡ true). let w = both-true (eqb a b) (ltb y x) r in inr (omega (tests, w .0), omega (tests, w .1)))
-    (either-true (ltb b a) (both (eqb a b) (ltb y x)) e)
+beats-true a x b y e = ⊎-elim (λ l. inl (omega (tests, l))) (λ r. let w = both-true _ _ r in inr (omega (tests, w .0), omega (tests, w .1))) (either-true _ _ e)
 
 pub beats-false : (a x b y : ℕ) → beats a x b y ≡ false → (a ≤ b) × (a ≡ b → x ≤ y)
 unfolding beats both
