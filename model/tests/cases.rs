@@ -294,29 +294,15 @@ fn newleader_above_p_is_refused() {
 #[test]
 fn commit_ld_delivers_only_its_count() {
     let server = follower(F3, 2, 2, txs(&[(1, 1), (2, 1)]), 0);
-    let taken = given(
-        sizes(3, 4),
-        &server,
-        0,
-        Message::CommitLd { e: 2, count: 1 },
-    )
-    .unwrap();
-    assert_eq!((taken.next.d, taken.next.stage), (1, F4));
-    let zero = given(
-        sizes(3, 4),
-        &server,
-        0,
-        Message::CommitLd { e: 2, count: 0 },
-    )
-    .unwrap();
-    assert_eq!((zero.next.d, zero.next.stage), (0, F4));
-    let over = given(
-        sizes(3, 4),
-        &server,
-        0,
-        Message::CommitLd { e: 2, count: 3 },
-    );
-    assert_eq!(over, Err(Refusal::Gap));
+    for (count, told) in [
+        (0, Ok((0, F4))),
+        (1, Ok((1, F4))),
+        (2, Ok((2, F4))),
+        (3, Err(Refusal::Gap)),
+    ] {
+        let answer = given(sizes(3, 4), &server, 0, Message::CommitLd { e: 2, count });
+        assert_eq!(answer.map(|taken| (taken.next.d, taken.next.stage)), told);
+    }
 }
 
 #[test]
