@@ -103,6 +103,16 @@ module _ (z : Sizes) (i : ℕ) (some : 1 ≤ z .room .0) where
       (tab-same (length xs) (λ j. sendAt (z .room .0) q (k + suc j)) (λ j. sendAt (z .room .0) q (suc k + j)) (λ j _. let g : k + suc j ≡ suc k + j = omega arith in ap (sendAt (z .room .0) q) g)
       ∙ box-from (put o (slotSize (z .room .0) * k) (slot (z .room .0) x)) (suc k) xs (a .1) (omega arith) (omega arith))
 
+  -- the outbox keeps its length
+  pub length-boxed : (o : List ℕ) (k : ℕ) (xs : List Send) → All (Sendable z i) xs → k + length xs ≤ 6 → 6 * slotSize (z .room .0) ≤ length o → length (boxed (z .room .0) o k xs) ≡ length o
+  unfolding boxed
+  length-boxed o k [] a n l = refl
+  length-boxed o k (x ∷ xs) a n l =
+      let e : length (slot (z .room .0) x) ≡ slotSize (z .room .0) = (let h = length-encode z (x .msg) some (a .0 .fine) in omega arith) in
+      let b = slot-box (z .room .0) k (length o) (omega arith) l in
+      let c : length (put o (slotSize (z .room .0) * k) (slot (z .room .0) x)) ≡ length o = length-put o (slot (z .room .0) x) (slotSize (z .room .0) * k) (omega arith) in
+      length-boxed (put o (slotSize (z .room .0) * k) (slot (z .room .0) x)) (suc k) xs (a .1) (omega arith) (omega arith) ∙ c
+
   pub box-read : (o : List ℕ) (xs : List Send) → All (Sendable z i) xs → length xs ≤ 6 → 6 * slotSize (z .room .0) ≤ length o → sendsAt (z .room .0) (boxed (z .room .0) o 0 xs) (length xs) ≡ xs
   unfolding sendsAt
   box-read o xs a n l = tab-same (length xs) (λ j. sendAt (z .room .0) (boxed (z .room .0) o 0 xs) j) (λ j. sendAt (z .room .0) (boxed (z .room .0) o 0 xs) (0 + j)) (λ j _. let g : j ≡ 0 + j = omega arith in ap (sendAt (z .room .0) (boxed (z .room .0) o 0 xs)) g) ∙ box-from o 0 xs a (omega arith) l

@@ -74,7 +74,7 @@ unfolding allBelow
 all-same zero f g e = refl
 all-same (suc n) f g e = rw (e n (omega arith), all-same n f g (λ t l. e t (omega arith)))
 
-waits : (i : ℕ) (empties : Bool) (rest : Channels) (t : ℕ) → length (pick empties (emptied i rest) rest i t) ≡ pick empties 0 (length (rest i t))
+pub waits : (i : ℕ) (empties : Bool) (rest : Channels) (t : ℕ) → length (pick empties (emptied i rest) rest i t) ≡ pick empties 0 (length (rest i t))
 unfolding pick emptied either
 waits i true rest t = rw (eq-eqb i i refl)
 waits i false rest t = refl

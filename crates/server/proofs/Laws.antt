@@ -207,14 +207,14 @@ module _ (z : Sizes) (s : State) (r : Plan) (h k m : List ℕ) (ev : Event) wher
 -- ---- a plan carried out
 
 -- events as the rules see them
-inputOf : Sizes → Event → List ℕ → Input
+pub inputOf : Sizes → Event → List ℕ → Input
 inputOf z (Oracle x) m = oracle x
 inputOf z Restart m = restart
 inputOf z (Deliver f) m = message f (readMsg (z .room .0) m)
 inputOf z (Submit v) m = submit v
 inputOf z Unknown m = restart
 
-answer-is : (z : Sizes) (s : State) (ev : Event) (h k m : List ℕ) (b : Bool) (t : Server) (out : List Send) → answerOf z s ev h k m ≡ taken b t out → run (step z (s .me) (inputOf z ev m) (serverOf s h k)) ≡ taken b t out
+pub answer-is : (z : Sizes) (s : State) (ev : Event) (h k m : List ℕ) (b : Bool) (t : Server) (out : List Send) → answerOf z s ev h k m ≡ taken b t out → run (step z (s .me) (inputOf z ev m) (serverOf s h k)) ≡ taken b t out
 unfolding answerOf inputOf
 answer-is z s (Oracle x) h k m b t out q = q
 answer-is z s Restart h k m b t out q = q
@@ -290,6 +290,7 @@ module _ (z : Sizes) (s : State) (ev : Event) (r : Plan) (h k m o : List ℕ) (k
         does = rw (answered, e) (record { code = refl; sent = p .sent; empties = refl; state = sym back; hist = p .hist; cand = p .cand; box = p .box });
         kept = rw (e, p .hist, p .cand) (both-yes _ _ (subst (λ (n : ℕ). goodWords (z .room .0) n (histWords (z .room .0) hs) ≡ true) hist-len (hist-good (z .room .0) hs (omega (arith, hist-len))))
             (both-yes _ _ (subst (λ (n : ℕ). goodWords (z .room .0) n (histWords (z .room .0) ks) ≡ true) cand-len (hist-good (z .room .0) ks (omega (arith, cand-len)))) (rw (serve-back z (r .state) hs ks hist-len cand-len, me) (stays .0))));
+        took = λ _. record { empties = r .empties; out = sends z r hs; is = rw (e, p .hist, p .cand, serve-back z (r .state) hs ks hist-len cand-len) answered };
       }
 
 -- ---- a refusal, and STATE
@@ -299,7 +300,7 @@ pub stood : (z : Sizes) (s : State) (ev : Event) (r : Plan) (h k m o : List ℕ)
 unfolding written meaning pick
 stood z s ev r h k m o a known dec n e =
     let q : answerOf z s ev h k m ≡ refused (r .code) = sym (dec .plans .means) ∙ rw (ne-eqb (r .code) 0 n) in
-    rw e (record { does = rw q (record { code = refl; sent = refl; empties = refl; state = refl; hist = refl; cand = refl; box = refl }); kept = known .can .state })
+    rw e (record { does = rw q (record { code = refl; sent = refl; empties = refl; state = refl; hist = refl; cand = refl; box = refl }); kept = known .can .state; took = λ y. absurd (n y) })
 
 abbrev pub No : State → Answer
 No s = record { code = 1; sent = 0; empties = false; state = s }

@@ -9,7 +9,8 @@ use Rattle.base.specs.Choice.{pick, both}
 use Rattle.base.specs.Refusals.{STATE, EVENT}
 use Rattle.base.specs.declared.Sizes.{Sizes}
 use Rattle.rules.specs.declared.State.{State}
-use Rattle.rules.specs.Server.{goodSizes}
+use Rattle.rules.specs.Message.{Send}
+use Rattle.rules.specs.Server.{Server, goodSizes}
 use Rattle.rules.specs.Tree.{Res, refused, taken, run}
 use Rattle.rules.specs.Step.{step, oracle, restart, message, submit}
 use Rattle.rules.specs.Words.{WORDS, msgSize, slotSize, readMsg, serverOf, stateOf, histWords, goodState, boxed}
@@ -114,6 +115,14 @@ pub record Decides (z : Sizes) (s : State) (ev : Event) (r : Plan) (h k m : List
   pub plans : Plans z s r h k (drop (loadAt ev) m) (answerOf z s ev h k m)
   pub loads : r .code ≡ 0 → Loads r (drop (loadAt ev) m)
 
+-- the answer x takes the event, and leaves the server t
+pub record Took (x : Res) (t : Server) : Type 0 where
+  pub empties : Bool
+  pub out : List Send
+  pub is : x ≡ taken empties t out
+
+-- all that it leaves, well formed; the record and words of a step taken stand for the server that the rules leave
 pub record Steps (z : Sizes) (s : State) (ev : Event) (h k m o : List ℕ) (a : Answer) (h′ k′ o′ : List ℕ) : Type 0 where
   pub does : Does (written z s h k o (answerOf z s ev h k m)) a h′ k′ o′
   pub kept : goodState z (a .state) h′ k′ ≡ true
+  pub took : a .code ≡ 0 → Took (answerOf z s ev h k m) (serverOf (a .state) h′ k′)
