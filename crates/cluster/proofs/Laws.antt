@@ -23,7 +23,7 @@ use Rattle.plan.specs.Plans.{Plans, meaning, sends, castOf, decode, histOf, can
 use Rattle.server.specs.declared.Event.{Event}
 use Rattle.server.specs.declared.Answer.{Answer}
 use Rattle.server.specs.Whole.{answerOf, loadAt, Known, Decides, Steps, Out, stay, written, Does}
-use Rattle.cluster.specs.Act.{roomFor, maySend, acted, Set}
+use Rattle.cluster.specs.Act.{roomFor, maySend, acted, Set, Acts}
 
 pub may-not : (z : Sizes) (depth : ℕ) (r : Rings) (i : ℕ) (p : Plan) → (p .code ≡ 0 → ⊥) → true ≡ maySend z depth r i p
 unfolding maySend either
@@ -54,16 +54,23 @@ room-is z depth r s p h k m x d = case (eqb (p .code) 0)
     (λ (e : eqb (p .code) 0 ≡ true). room-taken z depth r s p h k m x d (eqb-true _ _ e))
     (λ (e : eqb (p .code) 0 ≡ false). room-refused z depth r s p h k m x d (eqb-false _ _ e))
 
-pub act-room : (z : Sizes) (depth : ℕ) (r : Rings) (s : State) (ev : Event) (p : Plan) (h k m o : List ℕ) (a : Answer) (b : Bool) → Decides z s ev p h k m → b ≡ maySend z depth r (s .me) p → b ≡ false
-    → a ≡ record { code = 12; sent = 0; empties = false; state = s } → Does (acted z depth r s h k o (answerOf z s ev h k m)) a h k o
-unfolding acted pick
-act-room z depth r s ev p h k m o a b d e f g =
-    let x : roomFor z depth r (s .me) (answerOf z s ev h k m) ≡ false = sym (room-is z depth r s p h k _ (answerOf z s ev h k m) (d .plans)) ∙ sym e ∙ f in
-    rw (x, g) record { code = refl; sent = refl; empties = refl; state = refl; hist = refl; cand = refl; box = refl }
+module _ (z : Sizes) (depth : ℕ) (r : Rings) (s : State) (ev : Event) (p : Plan) (h k m o : List ℕ) (d : Decides z s ev p h k m) where
+  room-of : (b : Bool) → b ≡ maySend z depth r (s .me) p → roomFor z depth r (s .me) (answerOf z s ev h k m) ≡ b
+  room-of b e = sym (room-is z depth r s p h k _ (answerOf z s ev h k m) (d .plans)) ∙ sym e
 
-pub act-done : (z : Sizes) (depth : ℕ) (r : Rings) (s : State) (ev : Event) (p : Plan) (h k m o h′ k′ o′ : List ℕ) (a : Answer) (b : Bool) → Decides z s ev p h k m → b ≡ maySend z depth r (s .me) p → b ≡ true
-    → Steps z s ev h k m o a h′ k′ o′ → Does (acted z depth r s h k o (answerOf z s ev h k m)) a h′ k′ o′
-unfolding acted pick
-act-done z depth r s ev p h k m o h′ k′ o′ a b d e f g =
-    let x : roomFor z depth r (s .me) (answerOf z s ev h k m) ≡ true = sym (room-is z depth r s p h k _ (answerOf z s ev h k m) (d .plans)) ∙ sym e ∙ f in
-    rw x (g .does)
+  pub act-room : (a : Answer) (b : Bool) → Known z s ev h k m o → b ≡ maySend z depth r (s .me) p → b ≡ false
+      → a ≡ record { code = 12; sent = 0; empties = false; state = s } → Acts z depth r s ev h k m o a h k o
+  unfolding acted pick
+  act-room a b w e f g =
+      let x : roomFor z depth r (s .me) (answerOf z s ev h k m) ≡ false = room-of b e ∙ f in
+      rw g (record {
+        does = rw x (record { code = refl; sent = refl; empties = refl; state = refl; hist = refl; cand = refl; box = refl });
+        kept = w .can .state;
+        took = λ q. absurd (omega arith);
+      })
+
+  pub act-done : (a : Answer) (h′ k′ o′ : List ℕ) (b : Bool) → b ≡ maySend z depth r (s .me) p → b ≡ true → Steps z s ev h k m o a h′ k′ o′ → Acts z depth r s ev h k m o a h′ k′ o′
+  unfolding acted pick
+  act-done a h′ k′ o′ b e f g =
+      let x : roomFor z depth r (s .me) (answerOf z s ev h k m) ≡ true = room-of b e ∙ f in
+      record { does = rw x (g .does); kept = g .kept; took = g .took }

@@ -1,54 +1,137 @@
 // The cluster: servers and the channels between them. It leans on the server's promises alone.
+mod act;
+mod good;
+mod many;
+mod start;
+mod turn;
+
 use base::Sizes;
-use plan::Plan;
 use ring::Rings;
 use rules::State;
-use server::Answer;
-use server::Event;
 ghost use mathlib.Core.Path.{_≡_};
 ghost use mathlib.Core.Bool.{true};
-ghost use mathlib.Core.List.{List};
-ghost use Prim.Native.Nat.{ℕ, _≤_, _<_};
-ghost use Rattle.server.specs.Whole.{answerOf, Known, Does};
-ghost use Rattle.ring.specs.Queue.{goodRings};
-ghost use Rattle.cluster.specs.Act.{maySend, acted, Set};
+ghost use Prim.Native.Nat.{ℕ};
+ghost use Rattle.cluster.specs.Site.{siteOf, clusterOf, goodSite};
+ghost use Rattle.cluster.specs.Events.{meant};
+ghost use Rattle.cluster.specs.Runs.{eventsOf, goodRun, easings, Happens, Freshly, Runs};
 
-// Whether there is room for what a plan sends.
-fn may_send(z: Sizes, depth: u8, r: Rings, i: u8, p: Plan) -> bool
-    requires { ⌜ (z .n ≤ 7) × ((depth ≤ 16) × ((goodRings depth r ≡ true) × (i < z .n))) ⌝ }
-    ensures { λ b. ⌜ b ≡ maySend z depth r i p ⌝ }
-{
-    if p.code != 0 {
-        return true;
-    }
-    let one = p.one.to;
-    let two = p.two.to;
-    post::has_room(z, depth, r, i, p.empties, one, two)
+// Seven places for servers, of which the first n are used, and the rings of the channels. Histories, candidates, queue and
+// outbox are lent beside it.
+pub struct Cluster {
+    pub sizes: Sizes,
+    pub depth: u8,
+    pub servers: [State; 7],
+    pub rings: Rings,
 }
 
-// An event at a server: the plan, the test of room before anything is written, and then the hands.
-pub fn act<'a>(
-    z: Sizes,
-    depth: u8,
-    r: Rings,
-    s: State,
-    ev: Event,
-    hist: &mut [u64],
-    cand: &'a mut [u64],
-    msg: &'a [u64],
+// What may happen, as a script says it: O s x, R s, D from to, S s v; and anything else.
+pub enum Happening {
+    Oracle(u64, u64),
+    Restart(u64),
+    Deliver(u64, u64),
+    Submit(u64, u64),
+    Unknown,
+}
+
+// The refusal or 0, and the cluster afterwards.
+pub struct Told {
+    pub code: u8,
+    pub cluster: Cluster,
+}
+
+// How many events a run met, and how many of them were taken; 1 if what was lent is not well formed.
+pub struct Ran {
+    pub code: u8,
+    pub met: usize,
+    pub taken: usize,
+    pub cluster: Cluster,
+}
+
+// An event, of any input whatever.
+pub fn event<'a>(
+    c: Cluster,
+    e: Happening,
+    hists: &mut [u64],
+    cands: &'a mut [u64],
+    queue: &'a mut [u64],
     out: &mut [u64],
-) -> Answer
-    requires { ⌜ (Set z depth r s) × (Known z s ev (now hist) (now cand) (now msg) (now out)) ⌝ }
-    ensures { λ a. ⌜ Does (acted z depth r s (now (hist .entry)) (now (cand .entry)) (now (out .entry)) (answerOf z s ev (now (hist .entry)) (now (cand .entry)) (now (msg .entry)))) a (now (hist .exit)) (now (cand .exit)) (now (out .exit)) ⌝ }
+) -> Told
+    ensures { λ t. ⌜ Happens c (meant (c .sizes) e) (now (hists .entry)) (now (cands .entry)) (now (queue .entry)) (now (out .entry)) t (now (hists .exit)) (now (cands .exit)) (now (queue .exit)) (now (out .exit)) ⌝ }
 {
-    let p = server::decide(z, s, hist, cand, ev, msg);
-    if !may_send(z, depth, r, s.me, p) {
-        return Answer {
-            code: 12,
-            sent: 0,
-            empties: false,
-            state: s,
+    if !good::good(c, hists, cands, queue, out) {
+        return Told {
+            code: 1,
+            cluster: c,
         };
     }
-    server::carry(z, s, ev, p, hist, cand, msg, out)
+    turn::turn(c, e, hists, cands, queue, out)
+}
+
+// A fresh cluster; the words lent to it become zero.
+pub fn fresh(
+    z: Sizes,
+    depth: u8,
+    hists: &mut [u64],
+    cands: &mut [u64],
+    queue: &mut [u64],
+    out: &[u64],
+) -> Told
+    ensures { λ t. ⌜ Freshly z depth (now (hists .entry)) (now (cands .entry)) (now (queue .entry)) (now (out .entry)) t (now (hists .exit)) (now (cands .exit)) (now (queue .exit)) ⌝ }
+{
+    let c = start::fresh_cluster(z, depth);
+    if !good::may_lend(z, depth, hists.len(), cands.len(), queue.len(), out.len()) {
+        return Told {
+            code: 1,
+            cluster: c,
+        };
+    }
+    words::clear_from(hists, 0);
+    words::clear_from(cands, 0);
+    words::clear_from(queue, 0);
+    Told {
+        code: 0,
+        cluster: c,
+    }
+}
+
+// Events from lent words, as many as there are and the budget allows; a refusal stops nothing.
+pub fn run<'a>(
+    c: Cluster,
+    es: &[u64],
+    budget: usize,
+    hists: &mut [u64],
+    cands: &'a mut [u64],
+    queue: &'a mut [u64],
+    out: &mut [u64],
+) -> Ran
+    ensures { λ t. ⌜ Runs c (goodRun (c .sizes) (c .depth) (siteOf c (now (hists .entry)) (now (cands .entry)) (now (queue .entry)) (now (out .entry))) (now (es .entry))) (eventsOf (c .sizes) (now (es .entry)) budget) (now (hists .entry)) (now (cands .entry)) (now (queue .entry)) (now (out .entry)) t (now (hists .exit)) (now (cands .exit)) (now (queue .exit)) (now (out .exit)) ⌝ }
+{
+    if !good::good(c, hists, cands, queue, out) {
+        return many::refused(c);
+    }
+    if es.len() % 3 != 0 {
+        return many::refused(c);
+    }
+    let n = es.len() / 3;
+    if n <= budget {
+        return many::many(c, es, n, hists, cands, queue, out);
+    }
+    many::many(c, es, budget, hists, cands, queue, out)
+}
+
+// Waiting messages delivered, lowest channel first, until none waits or the budget is spent: how many, and how many were taken.
+pub fn settle<'a>(
+    c: Cluster,
+    budget: usize,
+    hists: &mut [u64],
+    cands: &'a mut [u64],
+    queue: &'a mut [u64],
+    out: &mut [u64],
+) -> Ran
+    ensures { λ t. ⌜ Runs c (goodSite (c .sizes) (c .depth) (siteOf c (now (hists .entry)) (now (cands .entry)) (now (queue .entry)) (now (out .entry)))) (easings (c .sizes) (c .depth) budget (clusterOf (c .sizes) (c .depth) (siteOf c (now (hists .entry)) (now (cands .entry)) (now (queue .entry)) (now (out .entry))))) (now (hists .entry)) (now (cands .entry)) (now (queue .entry)) (now (out .entry)) t (now (hists .exit)) (now (cands .exit)) (now (queue .exit)) (now (out .exit)) ⌝ }
+{
+    if !good::good(c, hists, cands, queue, out) {
+        return many::refused(c);
+    }
+    many::ease(c, budget, hists, cands, queue, out)
 }

@@ -4,29 +4,25 @@ use mathlib.Core.Bool.{Bool, true, false, not}
 use mathlib.Core.Logic.{_≢_, ⊎-elim, _⊎_, inl, inr}
 use mathlib.Core.List.{List, [], _∷_, _++_}
 use native.Mathlib.Omega.{arith}
-use native.Mathlib.Numerals.{add-one}
 use lib.Dec.{eqb, leb, ltb}
 use lib.ListN.{length, take, drop, getD, set, length-set}
-use denote.Ref.{now}
-use Rattle.cluster.specs.Act.{maySend, acted, Set}
-use Rattle.cluster.proofs.Laws.{may-not, may-fits, act-room, act-done}
-use Rattle.server.proofs.Laws.{not-yes, not-no}
+use Rattle.cluster.proofs.Laws.{may-not, may-fits}
 use borrow.Author.Needs.{needs}
-use Rattle.cluster.proofs.may_send.Statement.{statement}
-use Rattle.cluster.proofs.may_send.Tie as tie
-use Rattle.cluster.proofs.may_send.Reads as reads
-use Rattle.cluster.proofs.may_send.Lts as lts
+use Rattle.cluster.proofs.act.may_send.Statement.{statement}
+use Rattle.cluster.proofs.act.may_send.Tie as tie
+use Rattle.cluster.proofs.act.may_send.Reads as reads
+use Rattle.cluster.proofs.act.may_send.Lts as lts
 use Rattle.post.proofs.has_room.Reads as has-room-reads
 
--- src/lib.rt:22:9
+-- src/act.rt:22:9
 returns : tie.Need-returns
-returns c = let a = c .before .before .args in may-not _ _ _ _ _ (search (needs, c .if1))
+returns c = may-not _ _ _ _ _ (search (needs, c .if1))
 
--- src/lib.rt:26:5
+-- src/act.rt:26:5
 has-room-requires : tie.Need-has-room-requires
 has-room-requires c κs = search needs
 
--- src/lib.rt:17:1
+-- src/act.rt:17:1
 returns-2 : tie.Need-returns-2
 returns-2 c = let a = c .before .before .before .before .before .args in may-fits _ _ _ _ _ _ (search (needs, c .before .before .before .if1)) (c .has-room .ensures)
 
