@@ -30,6 +30,13 @@ static void falling(int n)
         put(E, 0, n - c, 0, 0);
 }
 
+/* the longest walks in the table of epochs: the lowest 53 bits of all are the same */
+static void high_bits(int n)
+{
+    while (c < n)
+        put(E, 0, (uint64_t)(c + 1) << 53, 0, 0);
+}
+
 static void all_then_delivered(int n)
 {
     put(E, 0, 1, 0, 0);
@@ -106,8 +113,8 @@ int main(void)
         const char *name;
         void (*make)(int);
     } cases[] = {
-        {"epochs rising", rising}, {"epochs falling", falling}, {"one epoch, all B, then all V", all_then_delivered},
-        {"half E, then a B of each", epochs_then_each}, {"a B, then V at seven", seven_deliver},
+        {"epochs rising", rising}, {"epochs falling", falling}, {"epochs that differ in high bits", high_bits},
+        {"one epoch, all B, then all V", all_then_delivered}, {"half E, then a B of each", epochs_then_each}, {"a B, then V at seven", seven_deliver},
         {"all B, then V server by server", server_by_server}, {"32 epochs, a B of each in turn", in_turn},
         {"X between two B", refusals_between},
     };

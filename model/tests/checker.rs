@@ -1,7 +1,8 @@
 //! The archive's trace checker: the kept traces get their answers, and traces
-//! with one record changed get the model's.
+//! with one record changed get the model's, and traces of many epochs too.
 #![allow(unsafe_code)]
 
+use std::collections::BTreeMap;
 use std::fs;
 use std::path::{Path, PathBuf};
 
@@ -143,6 +144,40 @@ fn changed_traces_get_the_models_answer() {
         }
     }
     assert!(rules[1..].iter().all(|hits| *hits > 50), "{rules:?}");
+}
+
+/// A trace of E and B alone, whose epochs come in any order and differ in low or
+/// in high bits.
+fn of_many_epochs(rng: &mut Rng) -> Vec<Record> {
+    let shift = rng.below(26);
+    let mut known = BTreeMap::new();
+    let mut record = || {
+        let epoch = ((rng.below(64) + 1) << shift) as u32;
+        let Some((server, count)) = known.get_mut(&epoch) else {
+            let server = rng.below(7);
+            known.insert(epoch, (server, 0));
+            return Record::E { server, epoch };
+        };
+        *count += 1;
+        let id = u64::from(epoch) << 32 | *count;
+        Record::B {
+            server: *server,
+            tx: Tx { id, value: 0 },
+        }
+    };
+    (0..200).map(|_| record()).collect()
+}
+
+#[test]
+fn traces_of_many_epochs_get_the_models_answer() {
+    let mut rng = Rng::new(22);
+    for _ in 0..1_000 {
+        let records = of_many_epochs(&mut rng);
+        assert_eq!(archive(7, &records), Verdict::Yes, "{records:?}");
+        let records = changed(&mut rng, &records);
+        let verdict = trace::check(7, &records);
+        assert_eq!(archive(7, &records), verdict, "{records:?}");
+    }
 }
 
 #[test]

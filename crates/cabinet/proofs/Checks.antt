@@ -23,8 +23,8 @@ pub only-judgement : (x : Judgement) (r r′ : ℕ) (t t′ : List ℕ) → Judg
 only-judgement x r r′ t t′ j j′ = (j .code ∙ sym (j′ .code), j .told ∙ sym (j′ .told))
 
 -- the checker on the words that were loaded
-pub checked : (n k : ℕ) (b W z sp sp′ : List ℕ) (r : Verdict) → W ≡ wordsOf k b ++ z → length sp ≡ 1024
-    → Checked n (take (k - 0) (drop 0 W)) sp r sp′ → meant r ≡ verdict n (wordsOf k b) 1024
+pub checked : (n k : ℕ) (b W z sp sp′ : List ℕ) (r : Verdict) → W ≡ wordsOf k b ++ z → length sp ≡ 4096
+    → Checked n (take (k - 0) (drop 0 W)) sp r sp′ → meant r ≡ verdict n (wordsOf k b) 4096
 checked n k b W z sp sp′ r e l c =
     let z₀ : k - 0 ≡ k = omega arith in
     let p : take (k - 0) (drop 0 W) ≡ wordsOf k b = rw (z₀, e) (take-at (wordsOf k b) z k (length-words k b)) in
@@ -49,7 +49,7 @@ module _ (n : ℕ) (b t : List ℕ) where
       unfolding checkOf pick both
       uneven h = rw (eq-eqb (length t) 8 lt, le-leb (length b) 40960 lb, ne-eqb (length b % 8) 0 h) (record { code = refl; told = refl })
 
-      module _ (h : length b % 8 ≡ 0) (v : Verdict) (e : meant v ≡ verdict n (wordsOf (length b / 8) b) 1024) where
+      module _ (h : length b % 8 ≡ 0) (v : Verdict) (e : meant v ≡ verdict n (wordsOf (length b / 8) b) 4096) where
         past : checkOf n b t ≡ judgement (meant v) t
         unfolding checkOf pick both
         past = rw (eq-eqb (length t) 8 lt, le-leb (length b) 40960 lb, eq-eqb (length b % 8) 0 h, e)

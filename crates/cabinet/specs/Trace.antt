@@ -31,11 +31,11 @@ pub record Judgement : Type 0 where
 abbrev pub judgement : Answer → List ℕ → Judgement
 judgement a t = record { code = said a; told = toldOf a t }
 
--- THE EXPORTED CHECKER: TRACE where a length is not right, else what the checker says of the words, with a space of 1,024
+-- THE EXPORTED CHECKER: TRACE where a length is not right, else what the checker says of the words, with a space of 4,096
 unfoldable pub checkOf : ℕ → List ℕ → List ℕ → Judgement
 checkOf n b t = pick
     (both (eqb (length t) 8) (both (leb (length b) 40960) (eqb (length b % 8) 0)))
-    (judgement (verdict n (wordsOf (length b / 8) b) 1024) t)
+    (judgement (verdict n (wordsOf (length b / 8) b) 4096) t)
     (record { code = TRACE; told = t })
 
 -- the result r, with what is told after it, is x

@@ -189,10 +189,10 @@ pub extern "C" fn zab_step(
 // What the checker says of the first k words of the bytes.
 fn verdict_of(n: u32, recs: &[u8], k: usize) -> Verdict
     requires { ⌜ (8 * k ≤ length (now recs)) × (k ≤ 5120) ⌝ }
-    ensures { λ r. ⌜ meant r ≡ verdict n (wordsOf k (now (recs .entry))) 1024 ⌝ }
+    ensures { λ r. ⌜ meant r ≡ verdict n (wordsOf k (now (recs .entry))) 4096 ⌝ }
 {
     let mut w = [0u64; 5120];
-    let mut s = [0u64; 1024];
+    let mut s = [0u64; 4096];
     octets::load(recs, &mut w, k);
     trace::check(n, &w[0..k], &mut s)
 }

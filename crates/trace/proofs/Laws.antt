@@ -1,7 +1,6 @@
 -- One law for each answer of a record's step.
 use Prim.Native.Nat.{ℕ, zero, suc, _+_, _-_, _≤_, _<_}
 use mathlib.Core.Path.{_≡_, refl, sym, ap, _∙_, subst}
-use mathlib.Core.Logic.{⊎-elim}
 use mathlib.Core.Bool.{Bool, true, false, not}
 use mathlib.Core.List.{List, [], _∷_, _++_, map, append-assoc}
 use native.Mathlib.Omega.{arith}
@@ -11,7 +10,7 @@ use lib.Seq.{getD-take, getD-set-same, getD-set-other, take-suc-set, set-split}
 use borrow.Author.Tests.{eqb-false, eq-eqb, ne-eqb, le-leb, lt-leb, lt-ltb, le-ltb, leb-true}
 use Rattle.base.specs.Choice.{pick, both, either, upd}
 use Rattle.base.specs.Record.{Entry, Rec, E, B, «V», X}
-use Rattle.base.proofs.Choice.{tests, case, clash, eq-cases, both-true, either-true}
+use Rattle.base.proofs.Choice.{tests, case, clash, eq-cases, both-true}
 use Rattle.trace.specs.Rules.{same, less, anyE, rule1, rule2, hasE, countB, anyB, vs, lowest, broken, sound}
 use Rattle.trace.specs.Fold.{none, mem, stOf}
 use Rattle.trace.specs.Held.{anyV}
@@ -33,11 +32,11 @@ get-map f (x ∷ m) (suc k) h = get-map f m k (omega arith)
 
 -- ---- rule 2
 
-module _ (w : List ℕ) (i : ℕ) {a m : ℕ} (ea : a ≡ epochAt w i) (em : m ≡ latestOf w a i) (k1 : rule1 (pastAt w i) ≡ true) (k2 : rule2 (pastAt w i) ≡ true) where
+module _ (w : List ℕ) (i : ℕ) {m : ℕ} (em : m ≡ latestOf w (epochAt w i) i) (k1 : rule1 (pastAt w i) ≡ true) (k2 : rule2 (pastAt w i) ≡ true) where
   pub follows-none : m ≡ 0 → false ≡ both (hasE (whoOf w i) (epochAt w i) (pastAt w i)) (eqb (counterAt w i) (countB (epochAt w i) (pastAt w i) + 1))
   unfolding both
   follows-none z =
-      let y : anyE (epochAt w i) (pastAt w i) ≡ false = near w (epochAt w i) i k1 k2 .no (sym (rw ea at em) ∙ z) in
+      let y : anyE (epochAt w i) (pastAt w i) ≡ false = near w (epochAt w i) i k1 k2 .no (sym em ∙ z) in
       rw (has-any (pastAt w i) (whoOf w i) (epochAt w i) y)
 
   module _ {x y : ℕ} (nz : m ≡ 0 → ⊥) (ex : x ≡ whoOf w (m - 1)) (ey : y ≡ whoOf w i) where
@@ -45,10 +44,10 @@ module _ (w : List ℕ) (i : ℕ) {a m : ℕ} (ea : a ≡ epochAt w i) (em : m �
     last = omega arith
 
     owner : hasE (whoOf w i) (epochAt w i) (pastAt w i) ≡ eqb y x
-    owner = near w (epochAt w i) i k1 k2 .at (m - 1) (sym (rw ea at em) ∙ sym last) .own (whoOf w i) ∙ rw (← ex, ← ey)
+    owner = near w (epochAt w i) i k1 k2 .at (m - 1) (sym em ∙ sym last) .own (whoOf w i) ∙ rw (← ex, ← ey)
 
     count : countB (epochAt w i) (pastAt w i) ≡ pick (eqb (kindOf w (m - 1)) 1) 0 (counterAt w (m - 1))
-    count = near w (epochAt w i) i k1 k2 .at (m - 1) (sym (rw ea at em) ∙ sym last) .cnt
+    count = near w (epochAt w i) i k1 k2 .at (m - 1) (sym em ∙ sym last) .cnt
 
     pub follows-other : (x ≡ y → ⊥) → false ≡ both (hasE (whoOf w i) (epochAt w i) (pastAt w i)) (eqb (counterAt w i) (countB (epochAt w i) (pastAt w i) + 1))
     unfolding both
@@ -68,7 +67,7 @@ module _ (w : List ℕ) (i : ℕ) {a m : ℕ} (ea : a ≡ epochAt w i) (em : m �
 -- ---- a V inside the longest
 
 module _ (w : List ℕ) (at i x : ℕ) (s : State) {b : Bool} (e : b ≡ same (entryAt w i) (entryAt w at)) where
-  pub inside-on : b ≡ true → _≡_ {A = Told} (record { rule = 0; state = record { counts = set (s .counts) x (getD (s .counts) x 0 + 1); len = s .len; top = s .top; high = s .high; seen = s .seen } }) (insideOf w at i x s)
+  pub inside-on : b ≡ true → _≡_ {A = Told} (record { rule = 0; state = record { counts = set (s .counts) x (getD (s .counts) x 0 + 1); len = s .len; top = s .top; seen = s .seen } }) (insideOf w at i x s)
   unfolding insideOf pick
   inside-on z = rw (← e, z)
 
@@ -110,20 +109,20 @@ module _ (n : ℕ) (w sp : List ℕ) (i : ℕ) (s : State) (H : Holds n (pastAt 
   x-on q a b d =
       let z = judge-x n (pastAt w i) (H .inv) (whoOf w i) (epochAt w i) in
       on (X (whoOf w i) (epochAt w i)) s (rec-x w i (λ e. a (q ∙ e)) (λ e. b (q ∙ e)) (λ e. d (q ∙ e))) z refl
-      (record { inv = step-inv n (pastAt w i) (H .inv) (X (whoOf w i) (epochAt w i)) refl z; laid = H .laid; len = H .len; size = H .size; cnt = H .cnt; top = H .top; high = H .high; seen = omega (arith, H .seen) })
+      (record { inv = step-inv n (pastAt w i) (H .inv) (X (whoOf w i) (epochAt w i)) refl z; laid = H .laid; len = H .len; size = H .size; cnt = H .cnt; top = H .top; seen = omega (arith, H .seen) })
 
   -- ---- E
 
-  module _ (q : kindOf w i ≡ 1) {e : ℕ} (ee : e ≡ epochAt w i) where
-    e-rule : broken n (recAt w i ∷ pastAt w i) ≡ pick (anyE e (pastAt w i)) 1 0
-    e-rule = ap (λ (x : Rec). broken n (x ∷ pastAt w i)) (rec-e w i q) ∙ judge-e n (pastAt w i) (H .inv) (whoOf w i) (epochAt w i) (sound-at (E (whoOf w i) (epochAt w i)) (rec-e w i q)) ∙ rw (← ee)
+  module _ (q : kindOf w i ≡ 1) where
+    e-rule : broken n (recAt w i ∷ pastAt w i) ≡ pick (anyE (epochAt w i) (pastAt w i)) 1 0
+    e-rule = ap (λ (x : Rec). broken n (x ∷ pastAt w i)) (rec-e w i q) ∙ judge-e n (pastAt w i) (H .inv) (whoOf w i) (epochAt w i) (sound-at (E (whoOf w i) (epochAt w i)) (rec-e w i q))
 
-    e-on : (h : ℕ) → e ≤ h → s .high ≤ h → anyE e (pastAt w i) ≡ false
-        → Stepped n w sp i (record { rule = 0; state = record { counts = s .counts; len = s .len; top = s .top; high = h; seen = s .seen } }) sp
+    pub e-new : {m : ℕ} → m ≡ latestOf w (epochAt w i) i → m ≡ 0 → Stepped n w sp i (record { rule = 0; state = s }) sp
     unfolding pick
-    e-on h a b f =
+    e-new u v =
+        let f : anyE (epochAt w i) (pastAt w i) ≡ false = near w (epochAt w i) i (H .inv .kept .k1) (H .inv .kept .k2) .no (sym u ∙ v) in
         let z : broken n (E (whoOf w i) (epochAt w i) ∷ pastAt w i) ≡ 0 = sym (ap (λ (x : Rec). broken n (x ∷ pastAt w i)) (rec-e w i q)) ∙ e-rule ∙ rw f in
-        on (E (whoOf w i) (epochAt w i)) (record { counts = s .counts; len = s .len; top = s .top; high = h; seen = s .seen }) (rec-e w i q) z refl
+        on (E (whoOf w i) (epochAt w i)) s (rec-e w i q) z refl
         (record {
           inv = step-inv n (pastAt w i) (H .inv) (E (whoOf w i) (epochAt w i)) (sound-at (E (whoOf w i) (epochAt w i)) (rec-e w i q)) z;
           laid = H .laid;
@@ -131,21 +130,14 @@ module _ (n : ℕ) (w sp : List ℕ) (i : ℕ) (s : State) (H : Holds n (pastAt 
           size = H .size;
           cnt = H .cnt;
           top = H .top;
-          high = λ d y. ⊎-elim (λ (u : eqb d (epochAt w i) ≡ true). omega tests) (λ (u : anyE d (pastAt w i) ≡ true). omega (arith, H .high d u)) (either-true (eqb d (epochAt w i)) (anyE d (pastAt w i)) y);
           seen = omega (arith, H .seen);
         })
 
-    pub e-high : s .high < e → Stepped n w sp i (record { rule = 0; state = record { counts = s .counts; len = s .len; top = s .top; high = e; seen = s .seen } }) sp
-    e-high h = e-on e (omega arith) (omega arith) (case (anyE e (pastAt w i)) (λ y. absurd (omega (arith, H .high e y))) (λ y. y))
-
-    pub e-new : {m : ℕ} → e ≤ s .high → m ≡ latestOf w e i → m ≡ 0 → Stepped n w sp i (record { rule = 0; state = s }) sp
-    e-new h u z = e-on (s .high) h (omega arith) (near w e i (H .inv .kept .k1) (H .inv .kept .k2) .no (sym u ∙ z))
-
-    pub e-old : {m : ℕ} → m ≡ latestOf w e i → (m ≡ 0 → ⊥) → Stepped n w sp i (record { rule = 1; state = s }) sp
+    pub e-old : {m : ℕ} → m ≡ latestOf w (epochAt w i) i → (m ≡ 0 → ⊥) → Stepped n w sp i (record { rule = 1; state = s }) sp
     unfolding pick
     e-old {m} u z =
         let l : suc (m - 1) ≡ m = omega arith in
-        stop 1 (sym (e-rule ∙ rw (near w e i (H .inv .kept .k1) (H .inv .kept .k2) .at (m - 1) (sym u ∙ sym l) .any))) (λ d. omega arith)
+        stop 1 (sym (e-rule ∙ rw (near w (epochAt w i) i (H .inv .kept .k1) (H .inv .kept .k2) .at (m - 1) (sym u ∙ sym l) .any))) (λ d. omega arith)
 
   -- ---- the longest
 
@@ -198,9 +190,9 @@ module _ (n : ℕ) (w sp : List ℕ) (i : ℕ) (s : State) (H : Holds n (pastAt 
       b-five z = stop 5 (sym (b-told ∙ b-rule ∙ rw (five, z, yes-b))) (λ d. omega arith)
 
       b-on : (h : ℕ) → h ≡ pick (leb (s .top) (epochAt w i)) (epochAt w i) (s .top) → l ≡ false
-          → Stepped n w sp i (record { rule = 0; state = record { counts = s .counts; len = s .len; top = h; high = s .high; seen = s .seen } }) sp
+          → Stepped n w sp i (record { rule = 0; state = record { counts = s .counts; len = s .len; top = h; seen = s .seen } }) sp
       b-on h e z =
-          on (B (whoOf w i) (entryAt w i)) (record { counts = s .counts; len = s .len; top = h; high = s .high; seen = s .seen }) (rec-b w i q) (b-zero z) refl
+          on (B (whoOf w i) (entryAt w i)) (record { counts = s .counts; len = s .len; top = h; seen = s .seen }) (rec-b w i q) (b-zero z) refl
           (record {
             inv = step-inv n (pastAt w i) (H .inv) (B (whoOf w i) (entryAt w i)) b-sound (b-zero z);
             laid = H .laid;
@@ -208,7 +200,6 @@ module _ (n : ℕ) (w sp : List ℕ) (i : ℕ) (s : State) (H : Holds n (pastAt 
             size = H .size;
             cnt = H .cnt;
             top = e ∙ ap (λ (k : ℕ). pick (leb k (epochAt w i)) (epochAt w i) k) (H .top);
-            high = H .high;
             seen = omega (arith, H .seen);
           })
 
@@ -216,7 +207,7 @@ module _ (n : ℕ) (w sp : List ℕ) (i : ℕ) (s : State) (H : Holds n (pastAt 
       unfolding pick
       b-low z ee h = b-on (s .top) (rw (lt-leb (s .top) (epochAt w i) (omega arith))) z
 
-      pub b-top : {e : ℕ} → l ≡ false → e ≡ epochAt w i → s .top ≤ e → Stepped n w sp i (record { rule = 0; state = record { counts = s .counts; len = s .len; top = e; high = s .high; seen = s .seen } }) sp
+      pub b-top : {e : ℕ} → l ≡ false → e ≡ epochAt w i → s .top ≤ e → Stepped n w sp i (record { rule = 0; state = record { counts = s .counts; len = s .len; top = e; seen = s .seen } }) sp
       unfolding pick
       b-top {e} z ee h = b-on e (rw (le-leb (s .top) (epochAt w i) (omega arith)) ee) z
 
@@ -295,9 +286,9 @@ module _ (n : ℕ) (w sp : List ℕ) (i : ℕ) (s : State) (H : Holds n (pastAt 
           some false z = omega arith
 
           go : (b : Bool) → same (entryAt w i) (entryAt w (getD sp (getD (s .counts) x 0) 0)) ≡ b
-              → Stepped n w sp i (pick b (record { rule = 0; state = record { counts = set (s .counts) x (getD (s .counts) x 0 + 1); len = s .len; top = s .top; high = s .high; seen = s .seen } }) (record { rule = pick (anyB (entryAt w i) (pastAt w i)) 4 3; state = s })) sp
+              → Stepped n w sp i (pick b (record { rule = 0; state = record { counts = set (s .counts) x (getD (s .counts) x 0 + 1); len = s .len; top = s .top; seen = s .seen } }) (record { rule = pick (anyB (entryAt w i) (pastAt w i)) 4 3; state = s })) sp
           go true z =
-              on («V» (whoOf w i) (entryAt w i)) (record { counts = set (s .counts) x (getD (s .counts) x 0 + 1); len = s .len; top = s .top; high = s .high; seen = s .seen }) (rec-v w i q) (in-zero z) in-grown
+              on («V» (whoOf w i) (entryAt w i)) (record { counts = set (s .counts) x (getD (s .counts) x 0 + 1); len = s .len; top = s .top; seen = s .seen }) (rec-v w i q) (in-zero z) in-grown
               (record {
                 inv = step-inv n (pastAt w i) (H .inv) («V» (whoOf w i) (entryAt w i)) v-sound (in-zero z);
                 laid = H .laid ∙ sym in-grown;
@@ -305,7 +296,6 @@ module _ (n : ℕ) (w sp : List ℕ) (i : ℕ) (s : State) (H : Holds n (pastAt 
                 size = length-set (s .counts) x (getD (s .counts) x 0 + 1) ∙ H .size;
                 cnt = v-cnt;
                 top = H .top;
-                high = H .high;
                 seen = omega (arith, H .seen);
               })
           go false z = stop (pick (anyB (entryAt w i) (pastAt w i)) 4 3) (in-three z ∙ sym v-told) (some (anyB (entryAt w i) (pastAt w i)))
@@ -356,10 +346,10 @@ module _ (n : ℕ) (w sp : List ℕ) (i : ℕ) (s : State) (H : Holds n (pastAt 
             set-split sp (s .len) i (omega arith) ∙ rw (y, append-assoc (grown (pastAt w i)) (i ∷ []) (drop (suc (s .len)) sp), H .laid)
 
         pub v-on : i < length sp → s .len ≤ i → v ≡ 0
-            → Stepped n w sp i (record { rule = 0; state = record { counts = set (s .counts) x (getD (s .counts) x 0 + 1); len = s .len + 1; top = s .top; high = s .high; seen = k } }) (set sp (s .len) i)
+            → Stepped n w sp i (record { rule = 0; state = record { counts = set (s .counts) x (getD (s .counts) x 0 + 1); len = s .len + 1; top = s .top; seen = k } }) (set sp (s .len) i)
         v-on room le z =
             let b : broken n («V» (whoOf w i) (entryAt w i) ∷ pastAt w i) ≡ 0 = top-of nz ∙ sym ev ∙ z in
-            let h : Holds n («V» (whoOf w i) (entryAt w i) ∷ pastAt w i) (set sp (s .len) i) (suc i) (record { counts = set (s .counts) x (getD (s .counts) x 0 + 1); len = s .len + 1; top = s .top; high = s .high; seen = k })
+            let h : Holds n («V» (whoOf w i) (entryAt w i) ∷ pastAt w i) (set sp (s .len) i) (suc i) (record { counts = set (s .counts) x (getD (s .counts) x 0 + 1); len = s .len + 1; top = s .top; seen = k })
             = record {
               inv = step-inv n (pastAt w i) (H .inv) («V» (whoOf w i) (entryAt w i)) v-sound b;
               laid = (let y : s .len + 1 ≡ suc (s .len) = omega arith in rw y (take-suc-set sp (s .len) i (omega arith) ∙ ap (λ (m : List ℕ). m ++ (i ∷ [])) (H .laid)) ∙ sym long-grown);
@@ -367,12 +357,11 @@ module _ (n : ℕ) (w sp : List ℕ) (i : ℕ) (s : State) (H : Holds n (pastAt 
               size = length-set (s .counts) x (getD (s .counts) x 0 + 1) ∙ H .size;
               cnt = v-cnt;
               top = H .top;
-              high = H .high;
               seen = omega (arith, src .low);
             } in
             record {
               rule = sym (v-told ∙ b);
-              goes = λ _. subst (λ (r : Rec). Holds n (r ∷ pastAt w i) (set sp (s .len) i) (suc i) (record { counts = set (s .counts) x (getD (s .counts) x 0 + 1); len = s .len + 1; top = s .top; high = s .high; seen = k })) (sym (rec-v w i q)) h;
+              goes = λ _. subst (λ (r : Rec). Holds n (r ∷ pastAt w i) (set sp (s .len) i) (suc i) (record { counts = set (s .counts) x (getD (s .counts) x 0 + 1); len = s .len + 1; top = s .top; seen = k })) (sym (rec-v w i q)) h;
               space = λ _. long-laid room le ∙ sym (ap (λ (r : Rec). laid (grown (r ∷ pastAt w i)) sp) (rec-v w i q) ∙ ap (λ (m : List ℕ). laid m sp) long-grown);
               stays = λ f. absurd (f refl);
             }

@@ -1,16 +1,16 @@
 -- One law for each answer of the functions that read records and look back.
-use Prim.Native.Nat.{ℕ, zero, suc, _+_, _-_, _*_, _≤_, _<_}
-use mathlib.Core.Path.{_≡_, sym, ap, _∙_, subst}
+use Prim.Native.Nat.{ℕ, zero, suc, _+_, _-_, _≤_, _<_}
+use mathlib.Core.Path.{_≡_, sym, ap, _∙_}
 use mathlib.Core.Bool.{Bool, true, false}
 use mathlib.Core.List.{List}
 use native.Mathlib.Omega.{arith}
 use lib.Dec.{eqb, ltb}
-use lib.ListN.{length, getD}
+use lib.ListN.{getD}
 use borrow.Author.Tests.{eq-eqb, ne-eqb, lt-ltb, le-ltb}
 use Rattle.base.specs.Choice.{pick, both, either}
 use Rattle.base.specs.Record.{Entry}
 use Rattle.trace.specs.Rules.{same, less}
-use Rattle.trace.specs.Words.{Within, kindOf, epochAt, entryAt, ofEpoch, latestOf, submits, seekOf}
+use Rattle.trace.specs.Words.{Within, kindOf, entryAt, ofEpoch, latestOf, submits, seekOf}
 
 -- ---- transactions compared
 
@@ -41,19 +41,6 @@ module _ (t u : Entry) {a b : ℕ} (ea : a ≡ t .ep) (eb : b ≡ u .ep) where
 
 -- ---- looking back
 
-module _ (w : List ℕ) (j e : ℕ) {k : ℕ} (q : k ≡ kindOf w j) where
-  pub of-e : {a : ℕ} → k ≡ 1 → a ≡ epochAt w j → eqb a e ≡ ofEpoch w j e
-  unfolding ofEpoch both either
-  of-e {a} d ea = rw (← q, ← ea, eq-eqb k 1 d)
-
-  pub of-b : {a : ℕ} → (k ≡ 1 → ⊥) → k ≡ 2 → a ≡ epochAt w j → eqb a e ≡ ofEpoch w j e
-  unfolding ofEpoch both either
-  of-b {a} n d ea = rw (← q, ← ea, ne-eqb k 1 n, eq-eqb k 2 d)
-
-  pub of-none : (k ≡ 1 → ⊥) → (k ≡ 2 → ⊥) → false ≡ ofEpoch w j e
-  unfolding ofEpoch both either
-  of-none n m = rw (← q, ne-eqb k 1 n, ne-eqb k 2 m)
-
 module _ (w : List ℕ) (i j : ℕ) {k : ℕ} (q : k ≡ kindOf w j) where
   pub submits-no : (k ≡ 2 → ⊥) → false ≡ submits w i j
   unfolding submits both
@@ -62,27 +49,6 @@ module _ (w : List ℕ) (i j : ℕ) {k : ℕ} (q : k ≡ kindOf w j) where
   pub submits-yes : {b : Bool} → k ≡ 2 → b ≡ same (entryAt w i) (entryAt w j) → b ≡ submits w i j
   unfolding submits both
   submits-yes {b} d e = rw (← q, ← e, eq-eqb k 2 d)
-
-module _ (w : List ℕ) (e : ℕ) {x : ℕ} where
-  pub latest-stop : (j : ℕ) {b : Bool} → 0 < j → b ≡ ofEpoch w (j - 1) e → b ≡ true → latestOf w e j ≡ x → j ≡ x
-  unfolding latestOf pick
-  latest-stop zero k p q h = absurd (omega arith)
-  latest-stop (suc j) k p q h =
-      let z : suc j - 1 ≡ j = omega arith in
-      let y : ofEpoch w j e ≡ true = subst (λ (m : ℕ). ofEpoch w m e ≡ true) z (sym p ∙ q) in rw y at h
-
-  pub latest-on : (j : ℕ) {b : Bool} → 0 < j → b ≡ ofEpoch w (j - 1) e → b ≡ false → latestOf w e j ≡ x → latestOf w e (j - 1) ≡ x
-  unfolding latestOf pick
-  latest-on zero k p q h = absurd (omega arith)
-  latest-on (suc j) k p q h =
-      let z : suc j - 1 ≡ j = omega arith in
-      let y : ofEpoch w j e ≡ false = subst (λ (m : ℕ). ofEpoch w m e ≡ false) z (sym p ∙ q) in
-      ap (latestOf w e) z ∙ (rw y at h)
-
-  pub latest-end : (j : ℕ) → j ≤ 0 → latestOf w e j ≡ x → 0 ≡ x
-  unfolding latestOf
-  latest-end zero k h = h
-  latest-end (suc j) k h = absurd (omega arith)
 
 module _ (w : List ℕ) (i : ℕ) {x : ℕ} where
   pub seek-stop : (j : ℕ) {b : Bool} → j < i → b ≡ submits w i j → b ≡ true → seekOf w i j (i - j) ≡ x → j ≡ x

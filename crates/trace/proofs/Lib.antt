@@ -9,6 +9,8 @@ pub mod Whole
 pub mod Paper
 pub mod Trap
 pub mod Leaf
+pub mod Table
+pub mod Lookup
 pub mod Records
 pub mod Ruling
 pub mod Laws

@@ -1,6 +1,6 @@
 -- What `check` promises: it decides the answer and the space after it; a refusal is number 13 and leaves the space as it was;
 -- yes is said only of a trace that keeps the six rules, and the record that is named is the first that breaks one.
-use Prim.Native.Nat.{ℕ, zero, suc, _+_}
+use Prim.Native.Nat.{ℕ, zero, suc, _+_, _*_}
 use mathlib.Core.Path.{_≡_, refl, sym, ap, _∙_}
 use mathlib.Core.Logic.{_≢_}
 use mathlib.Core.Bool.{Bool, true, false}
@@ -38,7 +38,7 @@ module _ (n : ℕ) (w sp : List ℕ) where
 
   answered : (v : Answer) → verdict n w (length sp) ≡ v → v ≢ refuses → answer n (recsOf w) ≡ v
   unfolding verdict pick
-  answered v e h = go (both (readable w) (leb (countOf w) (length sp))) e
+  answered v e h = go (both (readable w) (leb (4 * countOf w) (length sp))) e
     where
       go : (b : Bool) → pick b (answer n (recsOf w)) refuses ≡ v → answer n (recsOf w) ≡ v
       go true q = q

@@ -1,5 +1,5 @@
 -- What the checker answers, and what it leaves in the space.
-use Prim.Native.Nat.{ℕ}
+use Prim.Native.Nat.{ℕ, _*_}
 use mathlib.Core.Path.{_≡_}
 use mathlib.Core.List.{List, []}
 use lib.Dec.{leb}
@@ -8,6 +8,7 @@ use Rattle.base.specs.Choice.{pick, both}
 use Rattle.base.specs.Refusals.{TRACE}
 use Rattle.trace.specs.Rules.{Answer, keeps, breaks, refuses, answer, walk, allSound}
 use Rattle.trace.specs.Words.{recsOf, recsFrom, pastAt, countOf, allKnown, readable, grown, laid}
+use Rattle.trace.specs.Table.{cleared}
 use Rattle.trace.specs.declared.Verdict.{Verdict}
 use Rattle.trace.specs.declared.Verdict.the-variants.{Keeps, Breaks, Refused}
 
@@ -23,15 +24,16 @@ refusal Keeps = 0
 refusal (Breaks place rule) = 0
 refusal Refused = TRACE
 
--- TRACE too for words that are not whole records, an unknown kind, and a space of fewer words than there are records
+-- TRACE too for words that are not whole records, an unknown kind, and a space of fewer than four words for each record
 unfoldable pub verdict : ℕ → List ℕ → ℕ → Answer
-verdict n w room = pick (both (readable w) (leb (countOf w) room)) (answer n (recsOf w)) refuses
+verdict n w room = pick (both (readable w) (leb (4 * countOf w) room)) (answer n (recsOf w)) refuses
 
--- the numbers of the records, up to the one that is named, at which the longest delivered sequence grew, and then the words
--- as they were; a refusal leaves all as they were
+-- of the first words, one for each record: the numbers of the records, up to the one that is named, at which the longest
+-- delivered sequence grew, and then as they were; of the next three for each record: zeros; the others as they were. A refusal
+-- leaves all as they were
 abbrev pub left : Answer → List ℕ → List ℕ → List ℕ
-left keeps w sp = laid (grown (pastAt w (countOf w))) sp
-left (breaks place rule) w sp = laid (grown (pastAt w place)) sp
+left keeps w sp = laid (grown (pastAt w (countOf w))) (cleared (countOf w) sp)
+left (breaks place rule) w sp = laid (grown (pastAt w place)) (cleared (countOf w) sp)
 left refuses w sp = sp
 
 pub record Judged (n : ℕ) (w sp : List ℕ) (count : ℕ) (r : Verdict) (sp′ : List ℕ) : Type 0 where

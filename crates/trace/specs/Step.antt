@@ -7,10 +7,10 @@ use lib.Dec.{eqb, leb, ltb}
 use lib.ListN.{length, take, getD, set}
 use Rattle.base.specs.Choice.{pick, both, either}
 use Rattle.base.specs.Record.{B}
-use Rattle.trace.specs.Rules.{Past, same, less, anyE, rule1, new2, rule2, anyB, broken, sound}
+use Rattle.trace.specs.Rules.{Past, same, less, rule1, new2, rule2, anyB, broken, sound}
 use Rattle.trace.specs.Fold.{mem, stOf}
 use Rattle.trace.specs.Held.{Inv}
-use Rattle.trace.specs.Words.{Within, kindOf, whoOf, epochAt, counterAt, entryAt, recAt, pastAt, grown, laid}
+use Rattle.trace.specs.Words.{Within, kindOf, whoOf, epochAt, counterAt, entryAt, recAt, pastAt, grown, laid, latestOf}
 use Rattle.trace.specs.declared.step.State.{State}
 use Rattle.trace.specs.declared.step.Told.{Told}
 
@@ -25,6 +25,10 @@ pub record Ready (w sp : List ℕ) (i : ℕ) (s : State) : Type 0 where
   pub who : (kindOf w i ≡ 4 → ⊥) → whoOf w i < 7
   pub ct : kindOf w i ≡ 2 → 1 ≤ counterAt w i
 
+-- the latest record of the epoch of record i, if that is an E or a B
+abbrev pub Latest : List ℕ → ℕ → ℕ → Type 0
+Latest w i m = kindOf w i ≤ 2 → m ≡ latestOf w (epochAt w i) i
+
 -- the trace before record i, p, breaks no rule, and the state and the space tell of it
 pub record Holds (n : ℕ) (p : Past) (sp : List ℕ) (i : ℕ) (s : State) : Type 0 where
   pub inv : Inv n p
@@ -33,7 +37,6 @@ pub record Holds (n : ℕ) (p : Past) (sp : List ℕ) (i : ℕ) (s : State) : Ty
   pub size : length (s .counts) ≡ 7
   pub cnt : (x : ℕ) → x < 7 → getD (s .counts) x 0 ≡ stOf p .cnt x
   pub top : s .top ≡ stOf p .top
-  pub high : (e : ℕ) → anyE e p ≡ true → e ≤ s .high
   pub seen : s .seen ≤ i
 
 -- the rule that record i breaks; where it breaks none, what holds before the next
@@ -56,7 +59,7 @@ pub record Source (w : List ℕ) (i r : ℕ) : Type 0 where
 unfoldable pub insideOf : List ℕ → ℕ → ℕ → ℕ → State → Told
 insideOf w at i x s =
     pick (same (entryAt w i) (entryAt w at))
-    (record { rule = 0; state = record { counts = set (s .counts) x (getD (s .counts) x 0 + 1); len = s .len; top = s .top; high = s .high; seen = s .seen } })
+    (record { rule = 0; state = record { counts = set (s .counts) x (getD (s .counts) x 0 + 1); len = s .len; top = s .top; seen = s .seen } })
     (record { rule = pick (anyB (entryAt w i) (pastAt w i)) 4 3; state = s })
 
 -- rule 2 at record i, a B

@@ -1,9 +1,9 @@
 // The trace checker: one pass over the records, once none is malformed.
 //
 // A V inside the longest delivered sequence is compared with one record. A new transaction looks for its B from the last one's
-// on, so all of them together pass the trace once. A B looks back to the latest record of its epoch, so the B of one epoch
-// together pass the trace once. An E above all earlier ones looks nowhere, another E looks through the trace. So the worst cost
-// is the records times the epochs; of a trace whose epochs rise and follow each other it is the records.
+// on, so all of them together pass the trace once. An E and a B look their epoch up in a table, in at most 64 steps. So the
+// cost is at most that of 64 steps for each record.
+mod epochs;
 mod look;
 mod step;
 mod words;
@@ -65,36 +65,42 @@ fn all_sound(n: u32, recs: &[u64], count: usize) -> bool
     true
 }
 
-// The walk: record after record, until one breaks a rule.
+// The walk: record after record, until one breaks a rule. The table of epochs is empty before it and after it.
 fn judge(n: u32, recs: &[u64], space: &mut [u64], count: usize) -> Verdict
-    requires { ⌜ (n ≤ 7) × (count ≡ countOf (now recs)) × (count ≤ 1024) × (count ≤ length (now space)) ⌝ }
+    requires { ⌜ (n ≤ 7) × (count ≡ countOf (now recs)) × (count ≤ 1024) × (4 * count ≤ length (now space)) ⌝ }
     ensures { λ r. ⌜ Judged n (now (recs .entry)) (now (space .entry)) count r (now (space .exit)) ⌝ }
 {
     if !all_sound(n, recs, count) {
         return Verdict::Refused;
     }
+    epochs::clear(space, count);
     let mut s = step::State {
         counts: [0; 7],
         len: 0,
         top: 0,
-        high: 0,
         seen: 0,
     };
+    let mut nodes = 1;
     let mut i = 0;
     while i < count {
-        let t = step::step(recs, space, i, s);
+        let at = epochs::find(recs, space, count, i);
+        let last = space[count + at] as usize;
+        let t = step::step(recs, space, i, s, last);
         if t.rule != 0 {
+            epochs::clear(space, count);
             let place = i as u32;
             return Verdict::Breaks(place, t.rule);
         }
         s = t.state;
+        nodes = epochs::note(recs, space, count, nodes, at, i);
         i += 1;
     }
+    epochs::clear(space, count);
     Verdict::Keeps
 }
 
-// Does the trace `recs`, of n servers, keep the six rules? The caller lends a space of at least a word for each record. TRACE
-// is the only refusal, so it is given too if the words are not whole records and if the space is too small.
+// Does the trace `recs`, of n servers, keep the six rules? The caller lends a space of at least four words for each record.
+// TRACE is the only refusal, so it is given too if the words are not whole records and if the space is too small.
 pub fn check(n: u32, recs: &[u64], space: &mut [u64]) -> Verdict
     ensures { λ r. ⌜ Checked n (now (recs .entry)) (now (space .entry)) r (now (space .exit)) ⌝ }
 {
@@ -111,7 +117,7 @@ pub fn check(n: u32, recs: &[u64], space: &mut [u64]) -> Verdict
     if 1024 < count {
         return Verdict::Refused;
     }
-    if space.len() < count {
+    if space.len() < 4 * count {
         return Verdict::Refused;
     }
     judge(n, recs, space, count)

@@ -2,41 +2,11 @@
 use crate::words;
 ghost use mathlib.Core.Path.{_≡_};
 ghost use mathlib.Core.List.{map};
-ghost use Prim.Native.Nat.{_-_, _*_, _≤_, _<_};
-ghost use lib.ListN.{length, take};
+ghost use Prim.Native.Nat.{_-_, _≤_, _<_};
+ghost use lib.ListN.{take};
 ghost use Rattle.trace.specs.Fold.{mem};
-ghost use Rattle.trace.specs.Words.{WORDS, Within, Marked, entryAt, ofEpoch, latestOf, submits, seekOf};
+ghost use Rattle.trace.specs.Words.{Within, Marked, entryAt, submits, seekOf};
 ghost use Rattle.trace.specs.Step.{Source};
-
-// Is record j an E or a B of epoch e?
-fn of_epoch(recs: &[u64], j: usize, e: u64) -> bool
-    requires { ⌜ Within (now recs) j ⌝ }
-    ensures { λ r. ⌜ r ≡ ofEpoch (now (recs .entry)) j e ⌝ }
-{
-    let k = words::kind(recs, j);
-    if k == 1 {
-        return words::epoch(recs, j) == e;
-    }
-    if k == 2 {
-        return words::epoch(recs, j) == e;
-    }
-    false
-}
-
-// The latest E or B of epoch e before record i, counted from 1; 0 if there is none.
-pub fn latest(recs: &[u64], i: usize, e: u64) -> usize
-    requires { ⌜ WORDS * i ≤ length (now recs) ⌝ }
-    ensures { λ r. ⌜ r ≡ latestOf (now (recs .entry)) e i ⌝ }
-{
-    let mut j = i;
-    while 0 < j {
-        if of_epoch(recs, j - 1, e) {
-            return j;
-        }
-        j -= 1;
-    }
-    0
-}
 
 // Is record j a B of the transaction of record i?
 fn submits(recs: &[u64], i: usize, j: usize) -> bool

@@ -5,18 +5,17 @@ ghost use mathlib.Core.Path.{_≡_};
 ghost use mathlib.Core.List.{List};
 ghost use Prim.Native.Nat.{ℕ, _≤_, _<_};
 ghost use lib.ListN.{getD};
-ghost use Rattle.trace.specs.Words.{Within, Marked, kindOf, whoOf, counterAt};
-ghost use Rattle.trace.specs.Step.{Ready, Steps, Follows, lacksOf, risesOf, lateOf, insideOf};
+ghost use Rattle.trace.specs.Words.{Within, Marked, kindOf, whoOf, epochAt, counterAt, latestOf};
+ghost use Rattle.trace.specs.Step.{Ready, Latest, Steps, Follows, lacksOf, risesOf, lateOf, insideOf};
 
 // What is kept of the trace so far, beside the space, which has the numbers of the records at which the longest delivered
 // sequence grew: all servers' sequences begin it. `counts` is how many transactions each server delivered, `len` the length of
-// the longest, `top` the greatest epoch of a B; no E has an epoch above `high`. `seen` says from where to look for the B of the
-// next new transaction: it lies behind the last one's, unless a rule is broken.
+// the longest, `top` the greatest epoch of a B. `seen` says from where to look for the B of the next new transaction: it lies
+// behind the last one's, unless a rule is broken.
 pub struct State {
     pub counts: [usize; 7],
     pub len: usize,
     pub top: u64,
-    pub high: u64,
     pub seen: usize,
 }
 
@@ -26,33 +25,26 @@ pub struct Told {
     pub state: State,
 }
 
-// An E: rule 1.
-fn at_e(recs: &[u64], i: usize, s: State) -> Told
-    requires { ⌜ Within (now recs) i × (kindOf (now recs) i ≡ 1) ⌝ }
+// An E: rule 1. `last` is the latest E or B of its epoch, counted from 1; 0 if there is none.
+fn at_e(recs: &[u64], i: usize, s: State, last: usize) -> Told
+    requires { ⌜ Within (now recs) i × (kindOf (now recs) i ≡ 1) × (last ≡ latestOf (now recs) (epochAt (now recs) i) i) ⌝ }
     ensures { λ r. ⌜ ((sp : List ℕ) → Steps (now (recs .entry)) sp i s r sp) ⌝ }
 {
-    let e = words::epoch(recs, i);
-    if s.high < e {
-        let mut t = s;
-        t.high = e;
-        return Told { rule: 0, state: t };
-    }
-    if look::latest(recs, i, e) == 0 {
+    if last == 0 {
         return Told { rule: 0, state: s };
     }
     Told { rule: 1, state: s }
 }
 
 // Rule 2 at a B: the latest record of its epoch is the E of its server, or a B of it with the counter before.
-fn follows(recs: &[u64], i: usize) -> bool
-    requires { ⌜ Within (now recs) i × (1 ≤ counterAt (now recs) i) ⌝ }
+fn follows(recs: &[u64], i: usize, last: usize) -> bool
+    requires { ⌜ Within (now recs) i × (1 ≤ counterAt (now recs) i) × (last ≡ latestOf (now recs) (epochAt (now recs) i) i) ⌝ }
     ensures { λ r. ⌜ Follows (now (recs .entry)) i r ⌝ }
 {
-    let k = look::latest(recs, i, words::epoch(recs, i));
-    if k == 0 {
+    if last == 0 {
         return false;
     }
-    let j = k - 1;
+    let j = last - 1;
     if words::server(recs, j) != words::server(recs, i) {
         return false;
     }
@@ -76,11 +68,11 @@ fn lacks(recs: &[u64], space: &[u64], i: usize, c: usize, len: usize) -> bool
 }
 
 // A B: rules 2 and 5.
-fn at_b(recs: &[u64], space: &[u64], i: usize, s: State) -> Told
-    requires { ⌜ Ready (now recs) (now space) i s × (kindOf (now recs) i ≡ 2) ⌝ }
+fn at_b(recs: &[u64], space: &[u64], i: usize, s: State, last: usize) -> Told
+    requires { ⌜ Ready (now recs) (now space) i s × (kindOf (now recs) i ≡ 2) × (last ≡ latestOf (now recs) (epochAt (now recs) i) i) ⌝ }
     ensures { λ r. ⌜ Steps (now (recs .entry)) (now (space .entry)) i s r (now (space .entry)) ⌝ }
 {
-    if !follows(recs, i) {
+    if !follows(recs, i, last) {
         return Told { rule: 2, state: s };
     }
     let x = words::server(recs, i) as usize;
@@ -182,17 +174,17 @@ fn at_v(recs: &[u64], space: &mut [u64], i: usize, s: State) -> Told
     longer(recs, space, i, x, s)
 }
 
-// Record i.
-pub fn step(recs: &[u64], space: &mut [u64], i: usize, s: State) -> Told
-    requires { ⌜ Ready (now recs) (now space) i s ⌝ }
+// Record i; if it is an E or a B, `last` is the latest of its epoch.
+pub fn step(recs: &[u64], space: &mut [u64], i: usize, s: State, last: usize) -> Told
+    requires { ⌜ Ready (now recs) (now space) i s × Latest (now recs) i last ⌝ }
     ensures { λ r. ⌜ Steps (now (recs .entry)) (now (space .entry)) i s r (now (space .exit)) ⌝ }
 {
     let k = words::kind(recs, i);
     if k == 1 {
-        return at_e(recs, i, s);
+        return at_e(recs, i, s, last);
     }
     if k == 2 {
-        return at_b(recs, space, i, s);
+        return at_b(recs, space, i, s, last);
     }
     if k == 3 {
         return at_v(recs, space, i, s);

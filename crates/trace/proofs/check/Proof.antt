@@ -15,6 +15,9 @@ returns-3 c = check-part _ _ _ (c .if3 .taken)
 returns-4 : tie.Need-returns-4
 returns-4 c = check-long _ _ _ (c .before .before .before .if1 .left) (c .before .before .if2 .left) (c .if4 .taken)
 
+mul-if5 : tie.Need-mul-if5
+mul-if5 c = search needs
+
 returns-5 : tie.Need-returns-5
 returns-5 c = check-room _ _ _ (c .if5 .taken)
 
@@ -30,4 +33,13 @@ returns-6 c = check-judged _ _ _ (c .before .before .before .before .before .bef
 pub check-spec : {M : Type 1} → statement M
 check-spec =
     tie.close
-    (tie.spec returns returns-2 returns-3 returns-4 returns-5 judge-requires same-length returns-6)
+    (tie.spec
+    returns
+    returns-2
+    returns-3
+    returns-4
+    mul-if5
+    returns-5
+    judge-requires
+    same-length
+    returns-6)

@@ -7,7 +7,7 @@ use Rattle.trace.proofs.step.at_b.Statement.{statement}
 use Rattle.trace.proofs.step.at_b.Tie as tie
 
 follows-requires : tie.Need-follows-requires
-follows-requires c κs = (c .before .before .pre .0 .here, c .before .before .pre .0 .ct (c .before .before .pre .1))
+follows-requires c κs = (c .before .before .pre .0 .here, c .before .before .pre .0 .ct (c .before .before .pre .1), c .before .before .pre .2)
 
 returns : tie.Need-returns
 returns c = λ n H g. b-two _ _ _ _ _ H g (c .before .before .before .before .pre .1) (c .before .follows .ensures) (not-true (c .before .follows .result) (c .if1 .taken))

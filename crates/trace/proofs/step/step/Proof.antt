@@ -1,3 +1,5 @@
+use mathlib.Core.Path.{sym, _∙_}
+use native.Mathlib.Omega.{arith}
 use borrow.Author.Needs.{needs}
 use Rattle.trace.proofs.Laws.{x-on}
 use Rattle.trace.proofs.step.step.Statement.{statement}
@@ -7,13 +9,13 @@ kind-requires : tie.Need-kind-requires
 kind-requires c κs = search needs
 
 at-e-requires : tie.Need-at-e-requires
-at-e-requires c κs = search needs
+at-e-requires c κs = (c .before .before .before .before .pre .0 .here, sym (c .before .kind .ensures) ∙ c .if1 .taken, c .before .before .before .before .pre .1 (omega (arith, c .before .kind .ensures)))
 
 returns : tie.Need-returns
 returns c = λ n H g. c .at-e .ensures _ n H g
 
 at-b-requires : tie.Need-at-b-requires
-at-b-requires c κs = search needs
+at-b-requires c κs = (c .before .before .before .before .before .before .pre .0, sym (c .before .before .before .kind .ensures) ∙ c .before .if2 .taken, c .before .before .before .before .before .before .pre .1 (omega (arith, c .before .before .before .kind .ensures)))
 
 same-length : tie.Need-same-length
 same-length c = search needs
