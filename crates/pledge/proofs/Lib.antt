@@ -1,2 +1,5 @@
 pub mod Settled
 pub mod OneLedger
+pub mod Named
+pub mod Motion
+pub mod Calming

@@ -1,9 +1,9 @@
 -- One ledger, of the code: the ledger's theorems said of structs and lent words.
-use Prim.Native.Nat.{ℕ, _%_, _≤_, _<_}
+use Prim.Native.Nat.{ℕ, _%_, _<_}
 use mathlib.Core.Path.{_≡_, refl, sym, ap, _∙_, subst}
 use mathlib.Core.Logic.{_≢_, _⊎_}
 use mathlib.Core.Bool.{Bool, true, false}
-use mathlib.Core.List.{List, _++_}
+use mathlib.Core.List.{List}
 use native.Mathlib.Omega.{arith}
 use lib.Dec.{eqb}
 use lib.ListN.{length, getD, take, drop, take-append-drop}
@@ -13,7 +13,6 @@ use Rattle.base.specs.Refusals.{STATE}
 use Rattle.base.specs.Transaction.{Hist, none}
 use Rattle.base.specs.Record.{entry}
 use Rattle.base.specs.declared.Sizes.{Sizes}
-use Rattle.base.proofs.Choice.{clash}
 use Rattle.rules.specs.Cluster.{Cluster as Servers, Event, start, play, trace}
 use Rattle.rules.specs.Words.{zeros}
 use Rattle.ledger.specs.Delivered.{deliveredOf}
@@ -23,7 +22,7 @@ use Rattle.ledger.proofs.Kept.{kept}
 use Rattle.ledger.proofs.SubmittedOnce.{submitted-once}
 use Rattle.ledger.proofs.OneLeader.{one-leader}
 use Rattle.cluster.specs.Site.{Site, siteOf, clusterOf, serverAt, goodSite}
-use Rattle.cluster.specs.Runs.{goodFresh, freshOf, eventsOf, played, tally, goodRun, Freshly, Runs}
+use Rattle.cluster.specs.Runs.{goodFresh, freshOf, eventsOf, goodRun, Freshly, Runs}
 use Rattle.cluster.specs.declared.Cluster.{Cluster}
 use Rattle.cluster.specs.declared.Told.{Told}
 use Rattle.cluster.specs.declared.Ran.{Ran}
@@ -43,15 +42,15 @@ one-ledger z depth es c h k q o p =
     = λ i l. ap (λ (s : Servers). deliveredOf (s .srv i)) (sym p) ∙ sym (delivered-is z depth c h k q o i l) in
     record {
       agreement = λ i j a b.
-      subst (λ (x : Hist). Begins x (deliveredAt z c h j) ⊎ Begins (deliveredAt z c h j) x) (at i a)
-      (subst (λ (y : Hist). Begins (deliveredOf (play z depth start es .srv i)) y ⊎ Begins y (deliveredOf (play z depth start es .srv i))) (at j b)
-      (agreement z depth es i j));
+          subst (λ (x : Hist). Begins x (deliveredAt z c h j) ⊎ Begins (deliveredAt z c h j) x) (at i a)
+          (subst (λ (y : Hist). Begins (deliveredOf (play z depth start es .srv i)) y ⊎ Begins y (deliveredOf (play z depth start es .srv i))) (at j b)
+          (agreement z depth es i j));
       kept = λ m i a.
-      subst (Begins (deliveredOf (play z depth start (take m es) .srv i))) (at i a)
-      (subst (λ (fs : List Event). Begins (deliveredOf (play z depth start (take m es) .srv i)) (deliveredOf (play z depth start fs .srv i))) (take-append-drop m es)
-      (kept z depth (take m es) (drop m es) i));
+          subst (Begins (deliveredOf (play z depth start (take m es) .srv i))) (at i a)
+          (subst (λ (fs : List Event). Begins (deliveredOf (play z depth start (take m es) .srv i)) (deliveredOf (play z depth start fs .srv i))) (take-append-drop m es)
+          (kept z depth (take m es) (drop m es) i));
       submitted = λ i m a.
-      subst (λ (x : Hist). m < length x → Submitted (trace z depth start 1 es) (entry (getD x m none))) (at i a) (submitted-once z depth 1 es i m);
+          subst (λ (x : Hist). m < length x → Submitted (trace z depth start 1 es) (entry (getD x m none))) (at i a) (submitted-once z depth 1 es i m);
       leader = one-leader z depth 1 es;
     }
 
