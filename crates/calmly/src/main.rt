@@ -3,7 +3,13 @@
 use base::Place;
 use base::Sizes;
 use libc::STDOUT_FILENO;
-ghost use Prim.Native.Nat.{_≤_};
+use pledge::Calmed;
+ghost use Prim.Native.Nat.{_≤_, _<_};
+ghost use mathlib.Core.Path.{_≡_};
+ghost use mathlib.Core.Bool.{true};
+ghost use Rattle.cluster.specs.Runs.{goodFresh};
+ghost use Rattle.pledge.specs.Moves.{Counted};
+ghost use Rattle.calmly.specs.Counts.{sizesOf};
 
 // Two numbers on a line.
 fn print_pair(a: u64, b: u64) {
@@ -21,16 +27,17 @@ fn calm_run<'a>(
     cands: &'a mut [u64],
     queue: &'a mut [u64],
     out: &mut [u64],
-) {
+) -> Calmed
+    ensures { λ t. ⌜ (goodFresh z 2 (now (hists .entry)) (now (cands .entry)) (now (queue .entry)) (now (out .entry)) ≡ true → x < z .n → Counted z t) ⌝ }
+{
     let f = cluster::fresh(z, 2, hists, cands, queue, out);
-    let c = f.cluster;
-    let t = pledge::calm(c, x, 7, hists, cands, queue, out);
-    print_pair(t.first as u64, t.second as u64);
+    pledge::calm(f.cluster, x, 7, hists, cands, queue, out)
 }
 
 // The calm run of n servers, the last of which leads: room for four transactions, channels of depth two.
-fn calm_of(n: u8)
-    requires { ⌜ (1 ≤ n) × (n ≤ 7) ⌝ }
+fn calm_of(n: u8) -> Calmed
+    requires { ⌜ (3 ≤ n) × (n ≤ 7) ⌝ }
+    ensures { λ t. ⌜ Counted (sizesOf n) t ⌝ }
 {
     let mut hists = [0u64; 56];
     let mut cands = [0u64; 56];
@@ -46,13 +53,21 @@ fn calm_of(n: u8)
         &mut cands[0..8 * k],
         &mut queue[0..24 * k * k],
         &mut out,
-    );
+    )
+}
+
+// Its two numbers.
+fn print_of(n: u8)
+    requires { ⌜ (3 ≤ n) × (n ≤ 7) ⌝ }
+{
+    let t = calm_of(n);
+    print_pair(t.first as u64, t.second as u64);
 }
 
 fn main() {
-    calm_of(3);
-    calm_of(4);
-    calm_of(5);
-    calm_of(6);
-    calm_of(7);
+    print_of(3);
+    print_of(4);
+    print_of(5);
+    print_of(6);
+    print_of(7);
 }

@@ -21,10 +21,10 @@ use Rattle.cluster.specs.declared.Ran.{Ran}
 use Rattle.cluster.specs.declared.Happening.the-variants as happens
 use Rattle.cluster.proofs.Goods.{sizes-facts, fit-facts}
 use Rattle.cluster.proofs.Series.{outcome-done, outcome-after}
-use Rattle.pledge.specs.Moves.{names, nameWords, settling, renamed, regained, submission, finished, Moves, Calms}
+use Rattle.pledge.specs.Moves.{names, nameWords, settling, renamed, regained, submission, finished, settles, turned, rested, begun, ended, Moves, Calms}
 use Rattle.pledge.specs.declared.Calmed.{Calmed}
 use Rattle.pledge.proofs.Named.{names-are}
-use Rattle.pledge.proofs.Motion.{settles, turned, rested, begun, ended, Motion, it-moves}
+use Rattle.pledge.proofs.Motion.{Motion, it-moves}
 
 -- ---- each of the four, said of what is held
 
@@ -138,6 +138,8 @@ module _ (z : Sizes) (depth : ℕ) (w w₁ w₂ w₃ w₄ : Site) (x v : ℕ) (t
         deep = d;
         site = g′ .1 ∙ f′ .1 ∙ b′ .1 ∙ a′ .1 ∙ rw e refl;
         good = λ y. clash y e;
+        halfway = λ y. clash y e;
+        rules = λ y. clash y e;
         moves = λ y. clash y e;
       }
 
@@ -207,6 +209,8 @@ module _ (z : Sizes) (depth : ℕ) (w w₁ w₂ w₃ w₄ : Site) (x v : ℕ) (t
       deep = d;
       site = is-finished ∙ rw e refl;
       good = λ _. g .good;
+      halfway = λ _. ap (clusterOf z depth) (sym is-regained) ∙ to-rested;
+      rules = λ _. to-ended;
       moves = λ y before p l. let k = facts z depth w y in moves-on (it-moves z (k .0) depth (k .1) before x v (clusterOf z depth w) p l);
     }
 

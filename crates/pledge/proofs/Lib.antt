@@ -3,3 +3,4 @@ pub mod OneLedger
 pub mod Named
 pub mod Motion
 pub mod Calming
+pub mod Fresh

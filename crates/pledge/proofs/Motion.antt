@@ -10,18 +10,14 @@ use borrow.Author.Tests.{ltb-true}
 use Rattle.base.specs.declared.Sizes.{Sizes}
 use Rattle.base.proofs.Choice.{le-or-lt}
 use Rattle.rules.specs.Server.{goodSizes}
-use Rattle.rules.specs.Cluster.{Cluster, Event, S, start, event, after, play}
+use Rattle.rules.specs.Cluster.{Cluster, Event, S, start, event, play}
 use Rattle.calm.specs.Calm.{below, Others, isDone, Lively, Recovered, Established, Round, submitted-entry}
 use Rattle.calm.proofs.ItMoves as it
-use Rattle.cluster.specs.Runs.{easings, tally}
+use Rattle.cluster.specs.Runs.{tally}
 use Rattle.cluster.proofs.Goods.{sizes-facts}
-use Rattle.pledge.specs.Moves.{othersFrom, names, Leads, Roomy}
+use Rattle.pledge.specs.Moves.{othersFrom, names, settles, turned, rested, begun, ended, Leads, Roomy}
 use Rattle.pledge.proofs.Settled.{eased-lively, eased-stops, eased-counts, all-counted}
 use Rattle.pledge.proofs.Named.{all-others, length-names}
-
--- the deliveries of settling
-abbrev pub settles : Sizes → ℕ → Cluster → List Event
-settles z depth c = easings z depth 64 c
 
 -- where a round of k deliveries is meant, settling makes k of them
 round-whole : (z : Sizes) (depth : ℕ) (c₀ c : Cluster) (k : ℕ) (End : Cluster → Type 0) → k < 64
@@ -38,18 +34,6 @@ round-taken : (z : Sizes) (depth : ℕ) (c₀ c : Cluster) (k : ℕ) (End : Clus
 round-taken z depth c₀ c k End l r = eased-counts z depth 64 c (r .clean) ∙ round-whole z depth c₀ c k End l r
 
 -- ---- the calm run from c: named at all, settled, submitted, settled again
-
-abbrev pub turned : Sizes → ℕ → ℕ → Cluster → Cluster
-turned z depth x c = play z depth c (names z x)
-
-abbrev pub rested : Sizes → ℕ → ℕ → Cluster → Cluster
-rested z depth x c = play z depth (turned z depth x c) (settles z depth (turned z depth x c))
-
-abbrev pub begun : Sizes → ℕ → ℕ → ℕ → Cluster → Cluster
-begun z depth x v c = after (event z depth (rested z depth x c) (S x v))
-
-abbrev pub ended : Sizes → ℕ → ℕ → ℕ → Cluster → Cluster
-ended z depth x v c = play z depth (begun z depth x v c) (settles z depth (begun z depth x v c))
 
 pub record Motion (z : Sizes) (depth x v : ℕ) (c : Cluster) : Type 0 where
   pub named : tally z depth c (names z x) ≡ z .n

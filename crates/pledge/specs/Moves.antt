@@ -10,7 +10,7 @@ use Rattle.base.specs.Choice.{pick}
 use Rattle.base.specs.Refusals.{STATE}
 use Rattle.base.specs.Transaction.{LAST, ident, lastId}
 use Rattle.base.specs.declared.Sizes.{Sizes}
-use Rattle.rules.specs.Cluster.{Cluster as Servers, Event, S, start, play}
+use Rattle.rules.specs.Cluster.{Cluster as Servers, Event, S, start, event, after, play}
 use Rattle.calm.specs.Calm.{below, naming, Recovered, Established, submitted-entry}
 use Rattle.cluster.specs.Site.{Site, clusterOf, goodSite}
 use Rattle.cluster.specs.Events.{After, eventOf}
@@ -61,6 +61,23 @@ submission z depth w x v = eventOf z depth (regained z depth w x) (S x v)
 unfoldable pub finished : Sizes → ℕ → Site → ℕ → ℕ → Site
 finished z depth w x v = played z depth (submission z depth w x v .site) (settling z depth (submission z depth w x v .site))
 
+-- the same four of the rules, from c on
+
+abbrev pub settles : Sizes → ℕ → Servers → List Event
+settles z depth c = easings z depth 64 c
+
+abbrev pub turned : Sizes → ℕ → ℕ → Servers → Servers
+turned z depth x c = play z depth c (names z x)
+
+abbrev pub rested : Sizes → ℕ → ℕ → Servers → Servers
+rested z depth x c = play z depth (turned z depth x c) (settles z depth (turned z depth x c))
+
+abbrev pub begun : Sizes → ℕ → ℕ → ℕ → Servers → Servers
+begun z depth x v c = after (event z depth (rested z depth x c) (S x v))
+
+abbrev pub ended : Sizes → ℕ → ℕ → ℕ → Servers → Servers
+ended z depth x v c = play z depth (begun z depth x v c) (settles z depth (begun z depth x v c))
+
 -- ---- what it promises
 
 -- x is a server whose promise is below no other's and below the last epoch
@@ -85,8 +102,8 @@ pub record Moves (z : Sizes) (x v : ℕ) (c c₂ c₄ : Servers) (t : Calmed) : 
   pub delivered : Roomy z x c₂
       → Established (below (z .n)) x (c₂ .srv x .dur .p) (c₂ .srv x .dur .hist ++ (submitted-entry v (c₂ .srv x .dur .p) (c₂ .srv x .dur .hist) ∷ [])) c₄
 
--- the calm run from w, which leaves w′: the whole answer, where STATE leaves every word as it was; what is left is well formed;
--- and it moves, from whatever a run of events from fresh servers leads to
+-- the calm run from w, which leaves w′: the whole answer, where STATE leaves every word as it was; what is left is well formed
+-- and stands for what the rules do; and it moves, from whatever a run of events from fresh servers leads to
 pub record Calms (z : Sizes) (depth : ℕ) (w : Site) (x v : ℕ) (t : Calmed) (w′ : Site) : Type 0 where
   pub code : t .code ≡ pick (goodSite z depth w) (submission z depth w x v .code) STATE
   pub named : t .named ≡ pick (goodSite z depth w) (tally z depth (clusterOf z depth w) (names z x)) 0
@@ -96,5 +113,14 @@ pub record Calms (z : Sizes) (depth : ℕ) (w : Site) (x v : ℕ) (t : Calmed) (
   pub deep : t .cluster .depth ≡ depth
   pub site : w′ ≡ pick (goodSite z depth w) (finished z depth w x v) w
   pub good : goodSite z depth w ≡ true → goodSite z depth w′ ≡ true
+  pub halfway : goodSite z depth w ≡ true → clusterOf z depth (regained z depth w x) ≡ rested z depth x (clusterOf z depth w)
+  pub rules : goodSite z depth w ≡ true → clusterOf z depth w′ ≡ ended z depth x v (clusterOf z depth w)
   pub moves : goodSite z depth w ≡ true → (before : List Event) → clusterOf z depth w ≡ play z depth start before → Leads z x (clusterOf z depth w)
       → Moves z x v (clusterOf z depth w) (clusterOf z depth (regained z depth w x)) (clusterOf z depth w′) t
+
+-- the calm run of fresh servers: no refusal, all are named, and both numbers of deliveries
+pub record Counted (z : Sizes) (t : Calmed) : Type 0 where
+  pub code : t .code ≡ 0
+  pub named : t .named ≡ z .n
+  pub first : t .first ≡ 6 * (z .n - 1)
+  pub second : t .second ≡ 3 * (z .n - 1)
