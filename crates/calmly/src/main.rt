@@ -64,6 +64,7 @@ fn print_of(n: u8)
     print_pair(t.first as u64, t.second as u64);
 }
 
+// Three to seven servers.
 fn main() {
     print_of(3);
     print_of(4);

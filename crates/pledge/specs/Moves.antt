@@ -43,38 +43,47 @@ nameWords x =
     ∷ 1 ∷ otherAt x 4 ∷ x
     ∷ 1 ∷ otherAt x 5 ∷ x ∷ []
 
--- ---- what is held on the way, from w on: after the naming, settled, after the submission, settled again
+-- ---- what is held on the way, from w on
 
--- the deliveries of settling: more than any calm run has
+-- the deliveries of settling, up to 64, which is more than any calm run has
 abbrev pub settling : Sizes → ℕ → Site → List Event
 settling z depth w = easings z depth 64 (clusterOf z depth w)
 
+-- x is named everywhere
 unfoldable pub renamed : Sizes → ℕ → Site → ℕ → Site
 renamed z depth w x = played z depth w (names z x)
 
+-- and the cluster has settled
 unfoldable pub regained : Sizes → ℕ → Site → ℕ → Site
 regained z depth w x = played z depth (renamed z depth w x) (settling z depth (renamed z depth w x))
 
+-- then v is submitted at x
 unfoldable pub submission : Sizes → ℕ → Site → ℕ → ℕ → After
 submission z depth w x v = eventOf z depth (regained z depth w x) (S x v)
 
+-- and it has settled again
 unfoldable pub finished : Sizes → ℕ → Site → ℕ → ℕ → Site
 finished z depth w x v = played z depth (submission z depth w x v .site) (settling z depth (submission z depth w x v .site))
 
--- the same four of the rules, from c on
+-- ---- the same of the rules, from c on
 
+-- the deliveries of settling
 abbrev pub settles : Sizes → ℕ → Servers → List Event
 settles z depth c = easings z depth 64 c
 
+-- x is named everywhere
 abbrev pub turned : Sizes → ℕ → ℕ → Servers → Servers
 turned z depth x c = play z depth c (names z x)
 
+-- and the cluster has settled
 abbrev pub rested : Sizes → ℕ → ℕ → Servers → Servers
 rested z depth x c = play z depth (turned z depth x c) (settles z depth (turned z depth x c))
 
+-- then v is submitted at x
 abbrev pub begun : Sizes → ℕ → ℕ → ℕ → Servers → Servers
 begun z depth x v c = after (event z depth (rested z depth x c) (S x v))
 
+-- and it has settled again
 abbrev pub ended : Sizes → ℕ → ℕ → ℕ → Servers → Servers
 ended z depth x v c = play z depth (begun z depth x v c) (settles z depth (begun z depth x v c))
 
