@@ -6,10 +6,13 @@
 //! - `formed`: the well-formed rules, one clause at a time.
 //! - `words`, `bytes`: the same step on lent words and on lent bytes.
 //! - `cluster`: servers joined by channels of a bounded depth.
+//! - `runs`: the cluster on lent words, its channels rings in one queue.
 //! - `script`: the program that runs a script.
 //! - `trace`: the checker.
+//! - `aims`: seeded scripts of events for it.
 //! - `rng`, `gen`, `input`, `coverage`: seeded inputs and what they reach.
 
+pub mod aims;
 pub mod bytes;
 pub mod cluster;
 pub mod coverage;
@@ -18,6 +21,7 @@ pub mod gen;
 pub mod input;
 pub mod message;
 pub mod rng;
+pub mod runs;
 pub mod script;
 pub mod server;
 pub mod trace;

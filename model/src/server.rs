@@ -238,6 +238,11 @@ fn ensure(holds: bool, refusal: Refusal) -> Result<(), Refusal> {
 /// One step: a refusal, or the next record with what is sent.
 pub fn step(sizes: Sizes, server: &Server, event: &Event) -> Answer {
     ensure(well_formed(sizes, server), Refusal::State)?;
+    sound_step(sizes, server, event)
+}
+
+/// The same of a record that is known to be well formed.
+pub fn sound_step(sizes: Sizes, server: &Server, event: &Event) -> Answer {
     ensure(known(sizes, server, event), Refusal::Event)?;
     match event {
         Event::Unknown => Err(Refusal::Event),

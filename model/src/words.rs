@@ -290,7 +290,7 @@ fn read_event(sizes: Sizes, event: u64, who: u64, value: u64, msg: &[u64]) -> Ev
 }
 
 /// Message k into slot k; no other slot changes.
-fn write_outbox(out: &mut [u64], sent: &[(usize, Message)], room: usize) {
+pub fn write_outbox(out: &mut [u64], sent: &[(usize, Message)], room: usize) {
     let slots = out.chunks_exact_mut(outbox_slot_words(room));
     for (slot, (receiver, message)) in slots.zip(sent) {
         slot[0] = *receiver as u64;
