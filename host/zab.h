@@ -110,4 +110,50 @@ enum {
    No pointer may be null, and the two may not overlap. */
 uint8_t zab_check(uint32_t n, const uint8_t *recs, size_t recs_len, uint8_t *told, size_t told_len);
 
+/* ---- A cluster in one process, for tests and replays. Here every number is a word, a uint64_t as the machine has it, and
+   not bytes: nothing of this leaves the process. A cabinet's host needs none of it. */
+
+/* The cluster's struct in words, by place. Fresh: n, room and depth set, the number of each of the seven servers in its
+   record, and zero elsewhere. */
+enum {
+    ZAB_HELD = 369,                /* words of the struct */
+    ZAB_HELD_N = 0,
+    ZAB_HELD_ROOM = 1,
+    ZAB_HELD_DEPTH = 2,            /* messages that a channel holds, 2 to ZAB_MOST_DEPTH */
+    ZAB_HELD_MET = 3,              /* told by a run, not read: how many events it met, */
+    ZAB_HELD_TAKEN = 4,            /* and how many of them were taken */
+    ZAB_HELD_RECORDS = 5,          /* seven records of ZAB_RECORD_WORDS words; those from n on are not used */
+    ZAB_HELD_HEADS = 271,          /* 49 words: for each channel the slot of its first message, from 0 */
+    ZAB_HELD_COUNTS = 320,         /* 49 words: how many messages wait in each */
+    ZAB_MOST_DEPTH = 16,
+    ZAB_EVENT_WORDS = 3
+};
+
+/* Words of all histories (and of all candidates), server after server; of the queue: `depth` message slots for each
+   channel, the one from f to t being number n * f + t; of the outbox. */
+#define ZAB_HISTORIES_WORDS(n, room) (2 * (size_t)(room) * (n))
+#define ZAB_QUEUE_WORDS(n, room, depth) ((4 + 2 * (size_t)(room)) * (depth) * (n) * (n))
+#define ZAB_OUTBOX_WORDS(room) (ZAB_SLOTS * (5 + 2 * (size_t)(room)))
+
+/* A run: the first `budget` events, or all if there are fewer. A refusal of an event stops nothing.
+
+   Reads: held (ZAB_HELD words), hists and cands (ZAB_HISTORIES_WORDS words each), queue (ZAB_QUEUE_WORDS words), out (at
+   least ZAB_OUTBOX_WORDS words); events, ZAB_EVENT_WORDS words for each: the kind and two numbers, that is ZAB_ON_ORACLE, a server
+   and whom it is to follow; ZAB_ON_RESTART, a server, anything; ZAB_ON_DELIVERY, sender and receiver; ZAB_ON_SUBMISSION, a server and the value.
+
+   Writes, where it returns 0: all of held, and hists, cands, queue and out as the events say. A slot of the queue that is
+   taken or emptied becomes zero. Where it does not return 0, nothing is written at all.
+
+   Returns 0, or ZAB_STATE where a length is not as said here, a word is over its field, or a size, a record, a history, a
+   head or a count is not well formed.
+
+   No pointer may be null, and no two of held, hists, cands, queue, out and events may overlap. */
+uint8_t zab_run(uint64_t *held, size_t held_len,
+                uint64_t *hists, size_t hists_len,
+                uint64_t *cands, size_t cands_len,
+                uint64_t *queue, size_t queue_len,
+                uint64_t *out, size_t out_len,
+                const uint64_t *events, size_t events_len,
+                size_t budget);
+
 #endif

@@ -1,3 +1,4 @@
 pub mod Laws
 pub mod Few
 pub mod Checks
+pub mod Runs

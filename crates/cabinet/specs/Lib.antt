@@ -1,2 +1,3 @@
 pub mod Zab
 pub mod Trace
+pub mod Run

@@ -1,4 +1,6 @@
 // What a C host calls: one step of a server, its record, its histories and the messages in lent bytes; and the trace checker.
+mod run;
+
 use base::Place;
 use base::Sizes;
 use rules::State;

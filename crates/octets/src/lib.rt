@@ -12,7 +12,7 @@ ghost use Rattle.rules.specs.Words.{put};
 ghost use Rattle.octets.specs.Bytes.{wordAt, wordsOf, eight, bytesOf, under};
 ghost use Rattle.octets.specs.Record.{RECORD, bit, bits, seven, flags, tenOf, stateWords, stateAt, fits};
 
-fn wide(x: u8) -> u64
+pub fn wide(x: u8) -> u64
     ensures { λ r. ⌜ (r ≡ x) × (r < 256) ⌝ }
 {
     x as u64
@@ -75,7 +75,7 @@ pub fn save(w: &[u64], b: &mut [u8], n: usize)
 }
 
 // Is each word from `from` up to `to` at most k?
-fn all_under(w: &[u64], from: usize, to: usize, k: u64) -> bool
+pub fn all_under(w: &[u64], from: usize, to: usize, k: u64) -> bool
     requires { ⌜ (from ≤ to) × (to ≤ length (now w)) ⌝ }
     ensures { λ r. ⌜ r ≡ under k (take (to - from) (drop from (now (w .entry)))) ⌝ }
 {
@@ -106,14 +106,14 @@ pub fn record_fits(w: &[u64]) -> bool
     all_under(w, 31, 38, 4294967295)
 }
 
-fn tiny(x: u64) -> u8
+pub fn tiny(x: u64) -> u8
     requires { ⌜ x ≤ 255 ⌝ }
     ensures { λ r. ⌜ r ≡ x ⌝ }
 {
     x as u8
 }
 
-fn narrow(x: u64) -> u32
+pub fn narrow(x: u64) -> u32
     requires { ⌜ x ≤ LAST ⌝ }
     ensures { λ r. ⌜ r ≡ x ⌝ }
 {
@@ -179,7 +179,7 @@ fn bit_of(b: bool) -> u64
     if b { 1 } else { 0 }
 }
 
-fn long(x: u32) -> u64
+pub fn long(x: u32) -> u64
     ensures { λ r. ⌜ r ≡ x ⌝ }
 {
     x as u64
