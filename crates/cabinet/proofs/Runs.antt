@@ -167,7 +167,7 @@ unfolding recordsOf
 records-append [] q = refl
 records-append (s ∷ p) q = ap (λ (z : List ℕ). stateWords s ++ z) (records-append p q) ∙ sym (append-assoc (stateWords s) (recordsOf p) (recordsOf q))
 
-records-snoc : (p : List State) (s : State) → recordsOf (p ++ (s ∷ [])) ≡ recordsOf p ++ stateWords s
+pub records-snoc : (p : List State) (s : State) → recordsOf (p ++ (s ∷ [])) ≡ recordsOf p ++ stateWords s
 unfolding recordsOf
 records-snoc p s = records-append p (s ∷ []) ∙ ap (λ (z : List ℕ). recordsOf p ++ z) (append-nil (stateWords s))
 

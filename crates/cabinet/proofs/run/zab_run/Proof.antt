@@ -1,7 +1,9 @@
 use mathlib.Core.Path.{_≡_, sym, _∙_}
+use mathlib.Core.List.{[]}
 use native.Mathlib.Omega.{arith}
 use Rattle.octets.proofs.Laws.{was-true}
 use Rattle.base.proofs.Choice.{not-is}
+use Rattle.cluster.specs.Runs.{eventsOf}
 use Rattle.cabinet.proofs.Runs.{fit-of, run-unfit, run-refused, run-done}
 use borrow.Author.Needs.{needs}
 use Rattle.cabinet.proofs.run.zab_run.Statement.{statement}
@@ -55,7 +57,7 @@ same-length-6 c = search needs
 
 -- src/run.rt:200:9
 returns-2 : tie.Need-returns-2
-returns-2 c = let a = c .before .before .before .before .before .before .before .before .before .before .before .before .before .before .before .before .before .before .before .before .before .before .before .before .before .args in run-refused (a .held .now) (a .hists .now) (a .cands .now) (a .queue .now) (a .out .now) (a .events .now) (a .budget) (c .before .before .before .before .before .before .before .before .before .before .before .before .before .before .read-cluster .result) (c .before .before .before .before .before .before .before .before .before .run .result) _ _ _ _ (c .before .before .before .before .before .before .before .before .before .before .before .before .before .before .before .before .before .held-fits .result) _ (c .before .before .before .before .before .before .before .before .before .before .before .before .before .before .before .before .before .held-fits .ensures) (was-true _ (c .before .before .before .before .before .before .before .before .before .before .before .before .before .before .before .before .if1 .left)) (c .before .before .before .before .before .before .before .before .before .before .before .before .before .before .read-cluster .ensures) (c .before .before .before .before .before .before .before .before .before .run .ensures) (λ z. absurd (omega (arith, c .if2 .taken)))
+returns-2 c = let a = c .before .before .before .before .before .before .before .before .before .before .before .before .before .before .before .before .before .before .before .before .before .before .before .before .before .args in run-refused (a .held .now) (a .hists .now) (a .cands .now) (a .queue .now) (a .out .now) (a .events .now) (a .budget) (c .before .before .before .before .before .before .before .before .before .before .before .before .before .before .read-cluster .result) (c .before .before .before .before .before .before .before .before .before .run .result) _ _ _ _ (c .before .before .before .before .before .before .before .before .before .before .before .before .before .before .before .before .before .held-fits .result) (eventsOf (c .before .before .before .before .before .before .before .before .before .before .before .before .before .before .read-cluster .result .sizes) (a .events .now) _) (c .before .before .before .before .before .before .before .before .before .before .before .before .before .before .before .before .before .held-fits .ensures) (was-true _ (c .before .before .before .before .before .before .before .before .before .before .before .before .before .before .before .before .if1 .left)) (c .before .before .before .before .before .before .before .before .before .before .before .before .before .before .read-cluster .ensures) (c .before .before .before .before .before .before .before .before .before .run .ensures) (λ z. absurd (omega (arith, c .if2 .taken)))
 
 -- src/run.rt:203:5
 write-cluster-requires : tie.Need-write-cluster-requires
