@@ -122,7 +122,7 @@ enum {
     ZAB_HELD_DEPTH = 2,            /* messages that a channel holds, 2 to ZAB_MOST_DEPTH */
     ZAB_HELD_MET = 3,              /* told by a run, not read: how many events it met, */
     ZAB_HELD_TAKEN = 4,            /* and how many of them were taken */
-    ZAB_HELD_RECORDS = 5,          /* seven records of ZAB_RECORD_WORDS words; those from n on are not used */
+    ZAB_HELD_RECORDS = 5,          /* seven records of ZAB_RECORD_WORDS words; those from n on must fit, and are not used */
     ZAB_HELD_HEADS = 271,          /* 49 words: for each channel the slot of its first message, from 0 */
     ZAB_HELD_COUNTS = 320,         /* 49 words: how many messages wait in each */
     ZAB_MOST_DEPTH = 16,

@@ -8,11 +8,16 @@ use crate::runs::{Lot, Site, EVENT_WORDS, PLACE_N};
 use crate::server::{Server, L4};
 use crate::words::{EVENT_DELIVERY, EVENT_ORACLE, EVENT_RESTART, EVENT_SUBMISSION};
 
+/// The answers to an event of a cluster: 0 to 12.
+pub const CODES: usize = 13;
+
 /// Events with an aim: a leader is named to all, its messages are delivered and
 /// it is given values; now and then another one, a restart, or nonsense.
 pub struct Aim {
     leader: u64,
     pending: VecDeque<[u64; EVENT_WORDS]>,
+    /// How often each answer was met while the scripts were made: 0 is taken.
+    pub codes: [u64; CODES],
 }
 
 impl Aim {
@@ -20,6 +25,7 @@ impl Aim {
         let mut aim = Aim {
             leader: 0,
             pending: VecDeque::new(),
+            codes: [0; CODES],
         };
         aim.elect(rng, n);
         aim
@@ -102,7 +108,8 @@ pub fn script(rng: &mut Rng, lot: &Lot, length: usize, aim: &mut Aim) -> Vec<u64
     let mut events = Vec::new();
     for _ in 0..length {
         let event = aim.next(rng, &site);
-        let _ = site.apply(event[0], event[1], event[2]);
+        let answer = site.apply(event[0], event[1], event[2]);
+        aim.codes[answer.map_or_else(|refusal| refusal.number() as usize, |()| 0)] += 1;
         events.extend(event);
     }
     events

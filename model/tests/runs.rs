@@ -5,7 +5,7 @@
 mod common;
 
 use common::archive;
-use model::aims::{script, Aim};
+use model::aims::{script, Aim, CODES};
 use model::rng::Rng;
 use model::runs::{Lot, Site, PLACE_DEPTH, PLACE_MET, PLACE_TAKEN};
 
@@ -75,7 +75,7 @@ fn damage(rng: &mut Rng, lot: &mut Lot) {
 }
 
 /// What was seen: events met and taken, runs, runs refused, runs on damaged
-/// words, and deliveries by a server.
+/// words, deliveries by a server, and the answers in the scripts as made.
 #[derive(Default)]
 struct Seen {
     met: u64,
@@ -84,6 +84,7 @@ struct Seen {
     refused: u64,
     damaged: u64,
     delivered: u64,
+    codes: [u64; CODES],
 }
 
 impl Seen {
@@ -135,6 +136,7 @@ fn live(rng: &mut Rng, seen: &mut Seen) {
         }
     }
     seen.delivered += delivered(&lot);
+    (0..CODES).for_each(|code| seen.codes[code] += aim.codes[code]);
     assert_eq!(lot.held[PLACE_DEPTH], depth as u64);
 }
 
@@ -155,5 +157,7 @@ fn the_archive_runs_as_the_model() {
         seen.damaged,
         seen.delivered
     );
+    println!("answers 0 to 12 in the scripts as made: {:?}", seen.codes);
+    assert!(seen.codes[2..].iter().all(|count| *count > 0));
     assert!(seen.taken * 2 > seen.met && seen.refused > 1_000 && seen.delivered > 10_000);
 }
