@@ -4,3 +4,4 @@ pub mod Named
 pub mod Motion
 pub mod Calming
 pub mod Fresh
+pub mod Only
