@@ -1,3 +1,4 @@
 pub mod Notes
 pub mod Tells
 pub mod Only
+pub mod Output
