@@ -1,17 +1,17 @@
 -- Laws of the history rules.
-use Prim.Native.Nat.{ℕ, zero, suc, _+_, _*_, _/_, _%_, _≤_, _<_}
-use mathlib.Core.Path.{_≡_, refl, sym, ap, _∙_}
-use mathlib.Core.Logic.{_≢_, _⊎_, inl, inr, ⊎-elim}
+use Prim.Native.Nat.{ℕ, _+_, _≤_, _<_}
+use mathlib.Core.Path.{_≡_, refl, ap}
+use mathlib.Core.Logic.{_≢_}
 use mathlib.Core.Bool.{Bool, true, false}
-use mathlib.Core.List.{List, [], _∷_, _++_}
+use mathlib.Core.List.{[], _∷_, _++_}
 use native.Mathlib.Omega.{arith}
 use lib.Dec.{eqb, leb, ltb}
-use lib.ListN.{length, getD}
-use borrow.Author.Tests.{eqb-true, eqb-false, leb-true, ltb-true, le-leb, lt-ltb, eq-eqb}
-use Rattle.base.specs.Choice.{pick, both}
-use Rattle.base.specs.Transaction.{Hist, none, LAST, ident, epochOf, counterOf, idAt, lastId, nextCounter, follows, rising, goodHist}
+use lib.ListN.{length}
+use borrow.Author.Tests.{leb-true, ltb-true, le-leb, lt-ltb}
+use Rattle.base.specs.Choice.{pick}
+use Rattle.base.specs.Transaction.{Hist, LAST, ident, epochOf, counterOf, idAt, lastId, nextCounter, follows, rising, goodHist}
 use Rattle.base.specs.declared.Txn.{Txn}
-use Rattle.base.proofs.Choice.{tests, passes, both-true, both-yes, pick-at}
+use Rattle.base.proofs.Choice.{tests, both-true, both-yes}
 use Rattle.base.proofs.History.{length-snoc}
 
 -- what `follows` says

@@ -1,14 +1,13 @@
 -- Laws of quorums, once for any n, by weighing: they serve weights too.
 use Prim.Native.Nat.{ℕ, zero, suc, _+_, _*_, _≤_, _<_}
-use mathlib.Core.Path.{_≡_, refl, sym, ap, _∙_}
+use mathlib.Core.Path.{_≡_, refl, sym, _∙_}
 use mathlib.Core.Logic.{_≢_, _⊎_, inl, inr, ⊎-elim}
 use mathlib.Core.Bool.{Bool, true, false, false≢true}
 use native.Mathlib.Omega.{arith}
-use lib.Dec.{ltb}
 use borrow.Author.Tests.{ltb-true, lt-ltb, le-ltb}
 use Rattle.base.specs.Choice.{pick, upd}
 use Rattle.base.specs.Quorum.{Set, nobody, just, weight, size, quorum}
-use Rattle.base.proofs.Choice.{upd-at, upd-same, upd-other, eq-or, le-or-lt}
+use Rattle.base.proofs.Choice.{upd-at, upd-same, upd-other, eq-or}
 
 -- a server below n that is in both sets
 pub record Shared (n : ℕ) (p q : Set) : Type 0 where

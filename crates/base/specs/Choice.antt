@@ -1,6 +1,6 @@
 -- Choice by a test, tests put together, functions changed at one place.
 use Prim.Native.Nat.{ℕ, zero, suc}
-use mathlib.Core.Bool.{Bool, true, false, not}
+use mathlib.Core.Bool.{Bool, true, false}
 use lib.Dec.{eqb}
 
 unfoldable pub pick : {A : Type 0} → Bool → A → A → A

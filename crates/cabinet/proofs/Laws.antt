@@ -1,13 +1,13 @@
 -- Laws of the exported step, one for each return.
-use Prim.Native.Nat.{ℕ, zero, suc, _+_, _-_, _*_, _%_, _≤_, _<_}
+use Prim.Native.Nat.{ℕ, _+_, _-_, _*_, _%_, _≤_, _<_}
 use mathlib.Core.Path.{_≡_, refl, sym, ap, _∙_}
-use mathlib.Core.Logic.{_≢_, _⊎_, inl, inr, ⊎-elim}
+use mathlib.Core.Logic.{_≢_, _⊎_, ⊎-elim}
 use mathlib.Core.Bool.{Bool, true, false, not}
 use mathlib.Core.List.{List, [], _∷_, _++_, append-nil}
 use native.Mathlib.Omega.{arith}
 use lib.Dec.{eqb, leb}
-use lib.ListN.{length, take, drop, set, replicate, length-append, drop-of-length-le}
-use lib.Seq.{take-at, take-all, length-take-le}
+use lib.ListN.{length, take, drop, set, replicate, drop-of-length-le}
+use lib.Seq.{take-at, take-all}
 use borrow.Author.Tests.{eqb-true, leb-true, eq-eqb, ne-eqb, le-leb, lt-leb}
 use borrow.Rule.Slice.PartMut.{putMid, same-len-mid}
 use Rattle.base.specs.Choice.{pick, both}
@@ -16,11 +16,11 @@ use Rattle.base.proofs.Choice.{both-true, not-is, eq-or}
 use Rattle.rules.specs.declared.State.{State}
 use Rattle.rules.specs.Words.{put}
 use Rattle.octets.specs.Bytes.{wordsOf, bytesOf}
-use Rattle.octets.specs.Record.{bit, bits, stateWords, stateAt, fits}
+use Rattle.octets.specs.Record.{bit, stateWords, stateAt, fits}
 use Rattle.octets.proofs.Laws.{length-words, length-bytes, was-true}
 use Rattle.server.specs.declared.Answer.{Answer}
 use Rattle.server.specs.declared.Event.{Event}
-use Rattle.server.specs.Whole.{Out, stepOf, Does as WordsDo}
+use Rattle.server.specs.Whole.{stepOf, Does as WordsDo}
 use Rattle.cabinet.proofs.Few.{sent-few}
 use Rattle.cabinet.specs.Zab.{histSize, boxSize, eventOf, lentWords, sized, slotted, sizes, wordStep, After, answered, zabOf, Does, Lent, Steps}
 

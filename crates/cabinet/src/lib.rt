@@ -13,7 +13,6 @@ ghost use Prim.Native.Nat.{_*_, _≤_};
 ghost use lib.ListN.{length};
 ghost use Rattle.octets.specs.Bytes.{wordsOf, bytesOf};
 ghost use Rattle.octets.specs.Record.{bit};
-ghost use Rattle.server.specs.Whole.{stepOf};
 ghost use Rattle.trace.specs.Meaning.{meant, verdict};
 ghost use Rattle.cabinet.specs.Trace.{checkOf, Judges};
 ghost use Rattle.cabinet.specs.Zab.{sized, slotted, lentWords, eventOf, Lent, wordStep, Steps, zabOf, Does};

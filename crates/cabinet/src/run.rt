@@ -1,9 +1,9 @@
 // The cluster's run from outside, for tests and replays in the same process: its struct and all that it is lent are words.
 use base::Place;
 use base::Sizes;
-use cluster::Cluster;
 use ring::Rings;
 use rules::State;
+use site::Cluster;
 ghost use mathlib.Core.Path.{_≡_};
 ghost use mathlib.Core.Bool.{true};
 ghost use Prim.Native.Nat.{_+_, _*_, _≤_, _<_};

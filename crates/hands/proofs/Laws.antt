@@ -20,7 +20,7 @@ use Rattle.base.specs.declared.Sizes.{Sizes}
 use Rattle.base.proofs.Choice.{clash, eq-or, both-true, both-no, both-yes, pick-at, tests}
 use Rattle.rules.specs.Message.{Msg, Send}
 use Rattle.rules.specs.Tree.{toAll}
-use Rattle.rules.specs.Words.{txns, flat, zeros, allZero, histWords, msgWords, encode, has, slotSize, slot, put, boxed}
+use Rattle.rules.specs.Words.{txns, flat, zeros, allZero, histWords, msgWords, encode, has, slotSize, put, boxed}
 use Rattle.rules.proofs.Words.{length-txns, txns-flat, length-hist, zero-words, flat-append, flat-txns, as-hist, copied-hist, mid-put, put-sets, boxed-snoc, boxed-append}
 use Rattle.plan.specs.declared.Cast.{Cast}
 use Rattle.plan.specs.declared.Plan.{Plan}

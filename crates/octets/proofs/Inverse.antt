@@ -2,18 +2,16 @@
 use Prim.Native.Nat.{ℕ, zero, suc, _+_, _*_, _/_, _%_, _≤_, _<_}
 use mathlib.Core.Path.{_≡_, refl, sym, ap, _∙_}
 use mathlib.Core.Bool.{Bool, true, false}
-use mathlib.Core.List.{List, [], _∷_, _++_, append-assoc, append-nil}
+use mathlib.Core.List.{List, [], _∷_, _++_}
 use native.Mathlib.Omega.{arith}
 use lib.Dec.{eqb, leb}
 use lib.ListN.{length, take, drop, getD, length-take, length-drop, take-append-drop}
 use lib.Seq.{take-at, drop-at, drop-drop, take-all, take-suc, getD-take, getD-drop}
-use borrow.Author.Tests.{leb-true, eq-eqb}
-use Rattle.base.specs.Choice.{both}
-use Rattle.base.specs.Transaction.{LAST}
+use borrow.Author.Tests.{leb-true}
 use Rattle.base.proofs.Choice.{both-true}
 use Rattle.rules.specs.declared.State.{State}
 use Rattle.octets.specs.Bytes.{wordAt, wordsOf, eight, bytesOf, under, BYTE, WORD}
-use Rattle.octets.specs.Record.{bit, bits, flags, seven, tenOf, stateWords, stateAt, fits}
+use Rattle.octets.specs.Record.{bit, bits, flags, seven, stateWords, stateAt, fits}
 use Rattle.octets.proofs.Laws.{length-bits, under-of, set-at-one}
 
 -- ---- a word is its eight bytes

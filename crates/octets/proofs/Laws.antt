@@ -5,9 +5,9 @@ use mathlib.Core.Bool.{Bool, true, false, not}
 use mathlib.Core.List.{List, [], _∷_, _++_, append-assoc, append-nil}
 use native.Mathlib.Omega.{arith}
 use native.Mathlib.Numerals.{add-one}
-use lib.Dec.{eqb, leb}
+use lib.Dec.{leb}
 use lib.ListN.{length, take, drop, getD, set, length-append, length-drop, drop-of-length-le, take-append-drop}
-use lib.Seq.{drop-cons, set-at, append-snoc, take-suc, take-at, drop-at, drop-drop, drop-append-add, length-take-le, take-all, getD-drop, getD-take}
+use lib.Seq.{drop-cons, set-at, append-snoc, take-suc, take-at, drop-drop, drop-append-add, length-take-le, take-all, getD-drop, getD-take}
 use borrow.Author.Tests.{leb-true, le-leb, lt-leb}
 use borrow.Rule.Slice.PartMut.{putMid}
 use Rattle.base.specs.Choice.{both}
@@ -15,9 +15,9 @@ use Rattle.base.specs.Transaction.{LAST}
 use Rattle.base.proofs.Choice.{both-true}
 use Rattle.rules.specs.Words.{put}
 use Rattle.rules.specs.declared.State.{State}
-use Rattle.rules.proofs.Words.{length-put, mid-put, put-sets}
+use Rattle.rules.proofs.Words.{length-put, mid-put}
 use Rattle.octets.specs.Bytes.{wordAt, wordsOf, eight, bytesOf, under, BYTE}
-use Rattle.octets.specs.Record.{bit, bits, flags, seven, tenOf, stateWords, stateAt, fits}
+use Rattle.octets.specs.Record.{bit, bits, seven, tenOf, stateWords, fits}
 
 -- ---- words of bytes
 

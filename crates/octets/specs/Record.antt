@@ -1,7 +1,7 @@
 -- The record of a server in 38 words: ten numbers, three sets of seven (0 or 1 for each server), seven counts.
 use Prim.Native.Nat.{ℕ}
 use mathlib.Core.Bool.{Bool, true, false}
-use mathlib.Core.List.{List, [], _∷_, _++_, map}
+use mathlib.Core.List.{List, [], _∷_, _++_}
 use lib.Dec.{eqb}
 use lib.ListN.{getD, take, drop}
 use Rattle.base.specs.Choice.{both}

@@ -1,18 +1,18 @@
 -- The constant table and the match are the paper's table.
-use Prim.Native.Nat.{ℕ, zero, suc, _+_, _-_, _≤_, _<_}
-use mathlib.Core.Path.{_≡_, refl, sym, ap, _∙_}
+use Prim.Native.Nat.{ℕ, _+_, _-_, _≤_}
+use mathlib.Core.Path.{_≡_, refl, sym, _∙_}
 use mathlib.Core.Logic.{_≢_}
-use mathlib.Core.Bool.{Bool, true, false, not}
-use mathlib.Core.List.{List, [], _∷_}
+use mathlib.Core.Bool.{Bool, true, false}
+use mathlib.Core.List.{[]}
 use native.Mathlib.Omega.{arith}
-use lib.Dec.{eqb, leb}
+use lib.Dec.{eqb}
 use lib.ListN.{getD}
-use borrow.Author.Tests.{eqb-true, eqb-false, eq-eqb, ne-eqb}
+use borrow.Author.Tests.{eqb-true, ne-eqb}
 use Rattle.base.specs.Choice.{pick, both, either, allBelow}
-use Rattle.base.specs.Refusals.{ROLE, SENDER, PHASE}
+use Rattle.base.specs.Refusals.{ROLE}
 use Rattle.base.proofs.Choice.{all-at, all-at₂, failed}
 use Rattle.rules.specs.Table.{table, cell}
-use Rattle.rules.specs.Tree.{Tree, Res, refused, run, gate}
+use Rattle.rules.specs.Tree.{Tree, run, gate}
 use Rattle.plan.specs.Plans.{elsewhere, after}
 
 -- row k, where it is not taken, is that of the role with the stages lo to hi

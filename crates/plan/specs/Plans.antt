@@ -1,11 +1,11 @@
 -- What a plan means as an answer of the rules, and what it promises to the hands that carry it out.
-use Prim.Native.Nat.{ℕ, zero, suc, _+_, _-_, _≤_, _<_}
+use Prim.Native.Nat.{ℕ, _+_, _-_, _≤_, _<_}
 use mathlib.Core.Path.{_≡_}
 use mathlib.Core.Logic.{_≢_}
 use mathlib.Core.Bool.{Bool, true, false}
 use mathlib.Core.List.{List, [], _∷_, _++_}
-use lib.Dec.{eqb, leb, ltb}
-use lib.ListN.{length, set, replicate, drop}
+use lib.Dec.{eqb, leb}
+use lib.ListN.{length, set, replicate}
 use Rattle.base.specs.Choice.{pick, both, either}
 use Rattle.base.specs.Refusals.{ROLE, PHASE}
 use Rattle.base.specs.Transaction.{Hist}

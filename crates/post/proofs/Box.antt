@@ -1,14 +1,13 @@
 -- What the hands wrote into the outbox is read back as it was sent.
-use Prim.Native.Nat.{ℕ, zero, suc, _+_, _-_, _*_, _≤_, _<_}
-use mathlib.Core.Path.{_≡_, refl, sym, ap, _∙_, subst}
-use mathlib.Core.Logic.{_≢_, _⊎_, inl, inr, ⊎-elim}
-use mathlib.Core.Bool.{Bool, true, false}
-use mathlib.Core.List.{List, [], _∷_, _++_}
+use Prim.Native.Nat.{ℕ, suc, _+_, _-_, _*_, _≤_, _<_}
+use mathlib.Core.Path.{_≡_, refl, sym, ap, _∙_}
+use mathlib.Core.Bool.{true}
+use mathlib.Core.List.{List, [], _∷_}
 use native.Mathlib.Omega.{arith}
 use lib.ListN.{length, take, drop, getD}
 use lib.Seq.{take-nil, getD-take, getD-drop, drop-drop}
 use Rattle.base.specs.declared.Sizes.{Sizes}
-use Rattle.base.proofs.Choice.{le-or-lt, clash}
+use Rattle.base.proofs.Choice.{clash}
 use Rattle.base.proofs.Good.{good-len}
 use Rattle.rules.specs.Message.{Msg, cepoch, newepoch, acke, newleader, ackld, commitld, propose, ack, commit, junk, Send, formed}
 use Rattle.rules.specs.Words.{msgSize, slotSize, slot, readMsg, encode, put, boxed, tab}
@@ -16,7 +15,7 @@ use Rattle.rules.proofs.Words.{length-hist, length-put, read-back}
 use Rattle.rules.proofs.Formed.{acke-says, newleader-says}
 use Rattle.rules.proofs.Trees.{All}
 use Rattle.rules.proofs.Kept.{Sendable}
-use Rattle.ring.proofs.Parts.{tab-same, tab-cons, part-before, part-after, part-same, row-below}
+use Rattle.ring.proofs.Parts.{tab-same, tab-cons, part-before, part-same, row-below}
 use Rattle.post.specs.Posts.{toAt, wordsAt, sendAt, sendsAt}
 use Rattle.post.proofs.Laws.{slot-box}
 

@@ -1,23 +1,22 @@
 -- What is posted, and that there is room for it.
-use Prim.Native.Nat.{ℕ, zero, suc, _+_, _-_, _*_, _≤_, _<_, _%_}
+use Prim.Native.Nat.{ℕ, zero, suc, _+_, _-_, _*_, _≤_, _<_}
 use mathlib.Core.Path.{_≡_, refl, sym, ap, _∙_, subst}
-use mathlib.Core.Logic.{_≢_, _⊎_, inl, inr, ⊎-elim}
-use mathlib.Core.Bool.{Bool, true, false}
+use mathlib.Core.Bool.{true}
 use mathlib.Core.List.{List, [], _∷_, _++_}
 use native.Mathlib.Omega.{arith}
 use native.Mathlib.Numerals.{add-one}
-use native.Mathlib.Nat.{mul-le-mul-left, mul-le-mul, mul-suc}
-use lib.ListN.{length, take, drop, getD, length-append, length-take, length-drop}
-use lib.Seq.{length-take-le, take-take}
+use native.Mathlib.Nat.{mul-le-mul-left, mul-suc}
+use lib.ListN.{length, take, drop, length-append}
+use lib.Seq.{take-take}
 use borrow.Author.Tests.{leb-true}
 use Rattle.base.specs.Choice.{upd₂}
 use Rattle.base.specs.declared.Sizes.{Sizes}
-use Rattle.base.proofs.Choice.{eq-or, all-at, upd₂-at, upd₂-same}
+use Rattle.base.proofs.Choice.{all-at, upd₂-at, upd₂-same}
 use Rattle.rules.specs.Message.{Msg, Send}
 use Rattle.rules.specs.Cluster.{Channels, post, roomy}
 use Rattle.rules.specs.Words.{msgSize, slotSize, readMsg, tab}
 use Rattle.ring.specs.declared.Rings.{Rings}
-use Rattle.ring.specs.Queue.{cell, count, slotNo, longer, filled, chans, Ringed, Chan, Left, Pushed}
+use Rattle.ring.specs.Queue.{cell, count, slotNo, longer, filled, chans, Chan, Pushed}
 use Rattle.ring.proofs.Parts.{tab-snoc}
 use Rattle.ring.proofs.Laws.{chan-count}
 use Rattle.post.specs.Posts.{toAt, wordsAt, sendAt, sendsAt, rungs, ringOf, strewn, Ready, Posted}

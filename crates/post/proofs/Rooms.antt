@@ -1,7 +1,7 @@
 -- The test of room is the paper's: no channel from i would pass its depth.
-use Prim.Native.Nat.{ℕ, zero, suc, _+_, _-_, _*_, _≤_, _<_}
+use Prim.Native.Nat.{ℕ, zero, suc, _+_, _-_, _≤_, _<_}
 use mathlib.Core.Path.{_≡_, refl, sym, ap, _∙_}
-use mathlib.Core.Logic.{_≢_, _⊎_, inl, inr, ⊎-elim}
+use mathlib.Core.Logic.{_≢_, _⊎_, ⊎-elim}
 use mathlib.Core.Bool.{Bool, true, false, not}
 use mathlib.Core.List.{List, [], _∷_, _++_}
 use native.Mathlib.Omega.{arith}
@@ -11,14 +11,13 @@ use borrow.Author.Tests.{eq-eqb, ne-eqb, le-leb, leb-true}
 use Rattle.base.specs.Choice.{pick, both, either, allBelow, upd₂}
 use Rattle.base.specs.Quorum.{Set}
 use Rattle.base.specs.declared.Sizes.{Sizes}
-use Rattle.base.proofs.Choice.{eq-or, pick-at, all-of, all-at, upd₂-at, upd₂-same, upd₂-other, case, both-no}
+use Rattle.base.proofs.Choice.{eq-or, all-of, all-at, upd₂-same, upd₂-other, case, both-no}
 use Rattle.rules.specs.Message.{Msg, Send}
 use Rattle.rules.specs.Tree.{toAll}
 use Rattle.rules.specs.Cluster.{Channels, emptied, post, roomy}
 use Rattle.rules.specs.Words.{has}
 use Rattle.ring.specs.declared.Rings.{Rings}
-use Rattle.ring.specs.Queue.{cell, count, chans, Chan}
-use Rattle.ring.proofs.Laws.{chan-count}
+use Rattle.ring.specs.Queue.{cell, count}
 use Rattle.post.specs.Room.{hit, due, fits, howMany}
 
 pub many-append : (xs ys : List Send) (t : ℕ) → howMany (xs ++ ys) t ≡ howMany xs t + howMany ys t

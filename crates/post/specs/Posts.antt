@@ -1,12 +1,12 @@
 -- What stands in the outbox, and the rings and words after it was put behind what waits.
 use Prim.Native.Nat.{ℕ, zero, suc, _+_, _*_, _≤_, _<_}
 use mathlib.Core.Path.{_≡_}
-use mathlib.Core.Bool.{Bool, true, false}
-use mathlib.Core.List.{List, [], _∷_}
+use mathlib.Core.Bool.{true}
+use mathlib.Core.List.{List}
 use lib.ListN.{length, take, drop, getD}
 use Rattle.base.specs.declared.Sizes.{Sizes}
-use Rattle.rules.specs.Message.{Msg, Send}
-use Rattle.rules.specs.Cluster.{Channels, post, roomy}
+use Rattle.rules.specs.Message.{Send}
+use Rattle.rules.specs.Cluster.{post, roomy}
 use Rattle.rules.specs.Words.{msgSize, slotSize, readMsg, tab}
 use Rattle.ring.specs.declared.Rings.{Rings}
 use Rattle.ring.specs.Queue.{cell, count, slotNo, longer, filled, chans, Ringed, Left}

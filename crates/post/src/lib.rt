@@ -2,10 +2,9 @@
 use base::Sizes;
 use ring::Rings;
 ghost use mathlib.Core.Path.{_≡_};
-ghost use mathlib.Core.Bool.{Bool, true, false};
-ghost use mathlib.Core.List.{List};
-ghost use Prim.Native.Nat.{ℕ, _+_, _*_, _≤_, _<_};
-ghost use lib.ListN.{length, take, drop};
+ghost use mathlib.Core.Bool.{true, false};
+ghost use Prim.Native.Nat.{_+_, _*_, _≤_, _<_};
+ghost use lib.ListN.{length};
 ghost use Rattle.rules.specs.Words.{slotSize, has};
 ghost use Rattle.ring.specs.Queue.{cell, count, goodRings, Ringed, Chan, Pushed};
 ghost use Rattle.post.specs.Posts.{toAt, wordsAt, Ready, Posted};

@@ -1,13 +1,12 @@
 -- Bounds of the parts that the program lends.
-use Prim.Native.Nat.{ℕ, zero, suc, _+_, _-_, _*_, _≤_, _<_}
-use mathlib.Core.Path.{_≡_, refl, sym, ap, _∙_}
-use mathlib.Core.List.{List, [], _∷_, _++_}
+use Prim.Native.Nat.{ℕ, _+_, _-_, _*_, _≤_}
+use mathlib.Core.Path.{_≡_, ap, _∙_}
+use mathlib.Core.List.{List}
 use native.Mathlib.Omega.{arith}
-use lib.ListN.{length, take, drop, length-append, length-drop}
+use lib.ListN.{length, drop, length-append}
 use Rattle.rules.specs.Words.{put}
 use Rattle.ring.proofs.Laws.{times}
 use Rattle.script.specs.Text.{Wrote}
-use Rattle.scribe.specs.Telling.{MOST}
 use Rattle.replay.specs.Lent.{Lent, Reading}
 
 pub square : (k : ℕ) → k ≤ 7 → k * k ≤ 49

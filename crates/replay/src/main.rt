@@ -1,10 +1,10 @@
 // Replays a script from standard input, and writes its trace to standard output.
 use base::Place;
 use base::Sizes;
-use cluster::Cluster;
 use script::Command;
 use script::Note;
-ghost use Prim.Native.Nat.{ℕ, _+_, _*_, _≤_, _<_};
+use site::Cluster;
+ghost use Prim.Native.Nat.{_+_, _*_, _≤_, _<_};
 ghost use mathlib.Core.Path.{_≡_};
 ghost use lib.ListN.{length};
 ghost use Rattle.scribe.specs.Telling.{MOST};

@@ -8,19 +8,19 @@ use native.Mathlib.Omega.{arith}
 use native.Mathlib.Nat.{mul-le-mul-left, mul-le-mul, mul-add}
 use native.Mathlib.Numerals.{add-one}
 use lib.Dec.{eqb, leb, ltb}
-use lib.ListN.{length, take, drop, getD, set, length-set, length-take, length-drop}
+use lib.ListN.{length, take, drop, getD, set, length-set}
 use lib.Seq.{getD-set-same, getD-set-other, length-take-le}
-use borrow.Author.Tests.{eqb-true, eqb-false, leb-true, leb-false, ltb-true, ltb-false, eq-eqb, ne-eqb, le-leb, lt-leb, lt-ltb, le-ltb}
+use borrow.Author.Tests.{eqb-true, eqb-false, leb-true, ltb-true, le-leb, lt-ltb, le-ltb}
 use borrow.Rule.Slice.PartMut.{putMid}
-use Rattle.base.specs.Choice.{pick, both, either, upd₂, allBelow}
+use Rattle.base.specs.Choice.{pick, both, either, upd₂}
 use Rattle.base.specs.declared.Sizes.{Sizes}
-use Rattle.base.proofs.Choice.{clash, case, both-true, both-yes, both-no, either-true, either-false, pick-at, eq-or, le-or-lt, all-at, all-of, upd₂-at, upd₂-same, tests, passes}
+use Rattle.base.proofs.Choice.{case, both-true, both-yes, both-no, either-true, either-false, pick-at, eq-or, le-or-lt, all-at, all-of, upd₂-at}
 use Rattle.rules.specs.Message.{Msg}
 use Rattle.rules.specs.Cluster.{Channels, emptied}
 use Rattle.rules.specs.Words.{msgSize, readMsg, tab, zeros, put}
 use Rattle.rules.proofs.Words.{length-zeros, length-put, mid-put, length-tab}
 use Rattle.ring.specs.declared.Rings.{Rings}
-use Rattle.ring.specs.Queue.{RINGS, cell, head, count, wrap, slotNo, slotWords, waiting, chans, queueSize, goodRing, goodRings, Ringed, Chan, longer, shorter, vacant, filled, bare, vacated, bared, Left, Pushed, Popped, Cleared, Parted, Emptied}
+use Rattle.ring.specs.Queue.{cell, head, count, wrap, slotNo, slotWords, waiting, chans, queueSize, goodRing, goodRings, Ringed, Chan, longer, shorter, vacant, filled, bare, vacated, bared, Left, Pushed, Popped, Cleared, Parted, Emptied}
 use Rattle.ring.proofs.Parts.{tab-same, tab-cons, tab-snoc, part-before, part-after, part-same, row-below, row-in, row-apart, row-eq}
 
 -- ---- places in a ring

@@ -1,9 +1,9 @@
 -- The queue: for each channel a ring of slots in one lent slice of words, and what waits in it.
 use Prim.Native.Nat.{ℕ, zero, suc, _+_, _-_, _*_, _≤_, _<_}
 use mathlib.Core.Path.{_≡_}
-use mathlib.Core.Bool.{Bool, true, false}
+use mathlib.Core.Bool.{Bool, true}
 use mathlib.Core.List.{List, [], _∷_, _++_}
-use lib.Dec.{eqb, leb, ltb}
+use lib.Dec.{leb, ltb}
 use lib.ListN.{length, take, drop, getD, set}
 use Rattle.base.specs.Choice.{pick, both, upd₂, allBelow}
 use Rattle.base.specs.declared.Sizes.{Sizes}

@@ -2,12 +2,11 @@
 use base::Sizes;
 ghost use mathlib.Core.Path.{_≡_};
 ghost use mathlib.Core.Bool.{true};
-ghost use mathlib.Core.List.{List};
-ghost use Prim.Native.Nat.{ℕ, _+_, _*_, _≤_, _<_};
-ghost use lib.ListN.{length, take, drop};
+ghost use Prim.Native.Nat.{_+_, _*_, _≤_, _<_};
+ghost use lib.ListN.{length, take};
 ghost use Rattle.base.specs.declared.Sizes.{Sizes};
 ghost use Rattle.rules.specs.Words.{msgSize, zeros, put};
-ghost use Rattle.ring.specs.Queue.{RINGS, cell, head, count, wrap, slotNo, slotWords, goodRing, goodRings, Ringed, Chan, vacant, bare, Pushed, Popped, Cleared, Parted, Emptied};
+ghost use Rattle.ring.specs.Queue.{RINGS, cell, head, count, wrap, slotNo, goodRings, Ringed, Chan, Pushed, Popped, Cleared, Parted, Emptied};
 
 // Of each ring: the slot of the first message, and how many wait.
 pub struct Rings {

@@ -1,21 +1,21 @@
 -- The paper's cases P1 to P10, of the definitions: one table, one statement.
-use Prim.Native.Nat.{ℕ, zero, suc, _+_}
+use Prim.Native.Nat.{ℕ}
 use mathlib.Core.Path.{_≡_, refl}
-use mathlib.Core.Bool.{Bool, true, false}
-use mathlib.Core.List.{List, [], _∷_, _++_, map}
-use lib.Dec.{eqb, leb, ltb}
+use mathlib.Core.Bool.{true}
+use mathlib.Core.List.{List, [], _∷_, map}
+use lib.Dec.{leb}
 use lib.ListN.{length}
 use Rattle.base.specs.Choice.{pick, both, either, upd}
-use Rattle.base.specs.Quorum.{Set, nobody, just, weight, quorum}
+use Rattle.base.specs.Quorum.{nobody, just, weight, quorum}
 use Rattle.base.specs.Transaction.{Hist, LAST, ident, idAt, lastId, nextCounter, follows, rising, goodHist, sameTxn, sameHist}
 use Rattle.base.specs.Refusals.{GAP, UNDO, FULL, SPENT}
 use Rattle.base.specs.declared.Txn.{Txn}
 use Rattle.base.specs.declared.Sizes.{Sizes}
-use Rattle.rules.specs.Message.{cepoch, newepoch, acke, newleader, propose, commit, Send, positive, formed}
-use Rattle.rules.specs.Server.{Server, Vol, idle, fresh, F1, F2, F3, F4, L1, L2, L3, L4}
+use Rattle.rules.specs.Message.{cepoch, newepoch, acke, newleader, propose, commit, positive, formed}
+use Rattle.rules.specs.Server.{Server, Vol, idle, fresh, F1, F2, F4, L1, L2, L4}
 use Rattle.rules.specs.Table.{table, cell}
 use Rattle.rules.specs.Tree.{Res, refused, taken, run, gate, toAll}
-use Rattle.rules.specs.Step.{keeps, l1Join, l2Join, l34Join, onCepoch, beats, l2Count, onAcke, onNewepoch, onNewleader, onPropose, onCommit, receive, onSubmit, Input, message, submit, step}
+use Rattle.rules.specs.Step.{keeps, l1Join, l2Join, l34Join, onCepoch, beats, l2Count, onAcke, onNewepoch, onNewleader, onPropose, onCommit, receive, onSubmit, message, submit, step}
 
 -- the number of the refusal, 0 if there is none
 code : Res → ℕ

@@ -1,9 +1,7 @@
 -- Which messages are well formed, as facts.
-use Prim.Native.Nat.{ℕ, zero, suc, _+_, _≤_, _<_}
-use mathlib.Core.Path.{_≡_, refl}
-use mathlib.Core.Bool.{Bool, true, false}
-use mathlib.Core.List.{List, [], _∷_}
-use native.Mathlib.Omega.{arith}
+use Prim.Native.Nat.{ℕ, _≤_, _<_}
+use mathlib.Core.Path.{_≡_}
+use mathlib.Core.Bool.{true}
 use lib.Dec.{eqb, leb, ltb}
 use borrow.Author.Tests.{eqb-true, leb-true, ltb-true, le-leb, lt-ltb, eq-eqb}
 use Rattle.base.specs.Choice.{both}
@@ -11,7 +9,7 @@ use Rattle.base.specs.Transaction.{Hist, LAST, epochOf, counterOf, goodHist}
 use Rattle.base.specs.declared.Txn.{Txn}
 use Rattle.base.specs.declared.Sizes.{Sizes}
 use Rattle.base.proofs.Choice.{both-true, both-yes}
-use Rattle.rules.specs.Message.{Msg, cepoch, newepoch, acke, newleader, ackld, commitld, propose, ack, commit, positive, formed}
+use Rattle.rules.specs.Message.{cepoch, newepoch, acke, newleader, ackld, commitld, propose, ack, commit, positive, formed}
 
 pub positive-says : (x : ℕ) → positive x ≡ true → (1 ≤ x) × (x ≤ LAST)
 unfolding positive

@@ -1,29 +1,29 @@
 -- A step from a well-formed record leaves a well-formed record; everything it sends is well formed, to another server, and at most six messages.
-use Prim.Native.Nat.{ℕ, zero, suc, _+_, _-_, _*_, _≤_, _<_, max}
+use Prim.Native.Nat.{ℕ, zero, suc, _+_, _-_, _≤_, _<_, max}
 use mathlib.Core.Path.{_≡_, refl, sym, ap, _∙_}
-use mathlib.Core.Logic.{_≢_, _⊎_, inl, inr, ⊎-elim}
-use mathlib.Core.Bool.{Bool, true, false, not, false≢true}
-use mathlib.Core.List.{List, [], _∷_, _++_}
+use mathlib.Core.Logic.{_≢_, _⊎_, inr, ⊎-elim}
+use mathlib.Core.Bool.{Bool, true, false}
+use mathlib.Core.List.{List, []}
 use native.Mathlib.Omega.{arith}
-use lib.Dec.{eqb, leb, ltb}
-use lib.ListN.{length, take, length-append}
-use borrow.Author.Tests.{eqb-true, eqb-false, leb-true, ltb-true, eq-eqb}
-use Rattle.base.specs.Choice.{pick, both, either, upd}
-use Rattle.base.specs.Quorum.{Set, nobody, just, quorum}
-use Rattle.base.specs.Transaction.{Hist, LAST, ident, epochOf, counterOf, lastId, nextCounter, goodHist}
+use lib.Dec.{eqb, ltb}
+use lib.ListN.{length, length-append}
+use borrow.Author.Tests.{eqb-true, eqb-false}
+use Rattle.base.specs.Choice.{pick, upd}
+use Rattle.base.specs.Quorum.{Set, nobody}
+use Rattle.base.specs.Transaction.{Hist, LAST, ident, epochOf, lastId, nextCounter, goodHist}
 use Rattle.base.specs.declared.Txn.{Txn}
 use Rattle.base.specs.declared.Sizes.{Sizes}
-use Rattle.base.proofs.Choice.{tests, clash, not-is, upd-at, upd-same, pick-at, by-contra}
-use Rattle.base.proofs.Quorum.{just-is, just-has, put-is, put-keeps, cut-is}
-use Rattle.base.proofs.History.{length-snoc, ident-epoch, ident-counter}
+use Rattle.base.proofs.Choice.{tests, clash, not-is, upd-at, upd-same, pick-at}
+use Rattle.base.proofs.Quorum.{just-is, put-is, put-keeps, cut-is}
+use Rattle.base.proofs.History.{length-snoc, ident-epoch}
 use Rattle.base.proofs.Good.{Follows, good-len, good-up, good-nil, good-last, good-snoc, next-follows, next-small}
 use Rattle.rules.specs.Message.{Msg, cepoch, newepoch, acke, newleader, ackld, commitld, propose, ack, commit, junk, Send, formed}
 use Rattle.rules.specs.Server.{Dur, Vol, Server, idle, wellFormed, goodSizes}
-use Rattle.rules.specs.Tree.{Tree, Res, taken, run, toAll, only}
-use Rattle.rules.specs.Step.{promised, accepted, appended, delivered, moved, joins, unsynced, syncs, raises, sees, counted, keeps, onOracle, onRestart, l1Join, l2Join, l34Join, onCepoch, l2Count, onAcke, advance, advanced, l3Sync, l4Advance, onAckld, onAck, onNewepoch, onNewleader, onPropose, onCommit, mine, receive, submission, onSubmit, Input, oracle, restart, message, submit, step}
-use Rattle.rules.proofs.Table.{cepoch-in, newepoch-in, acke-in, newleader-in, ackld-in, commitld-in, propose-in, ack-in, commit-in}
-use Rattle.rules.proofs.Trees.{Leaves, Answers, run-leaves, gate-leaves, All, all-append, to-all, skips-self, skips-out, few-less, few-less₂}
-use Rattle.rules.proofs.WellFormed.{Sized, Durable, Epochs, Oracle, Sets, Counts, Largest, Candidate, Whole, whole, whole-shown, sized}
+use Rattle.rules.specs.Tree.{taken, run, toAll, only}
+use Rattle.rules.specs.Step.{delivered, moved, unsynced, counted, keeps, onOracle, onRestart, l1Join, l2Join, l34Join, onCepoch, l2Count, onAcke, advance, advanced, l3Sync, l4Advance, onAckld, onAck, onNewepoch, onNewleader, onPropose, onCommit, receive, submission, onSubmit, Input, oracle, restart, message, submit, step}
+use Rattle.rules.proofs.Table.{cepoch-in, newepoch-in, newleader-in, ackld-in, commitld-in, propose-in, ack-in, commit-in}
+use Rattle.rules.proofs.Trees.{Leaves, run-leaves, gate-leaves, All, all-append, to-all, skips-self, skips-out, few-less, few-less₂}
+use Rattle.rules.proofs.WellFormed.{Sized, Durable, Epochs, Oracle, Sets, Counts, Candidate, Whole, whole, whole-shown, sized}
 use Rattle.rules.proofs.Formed
 
 -- a well-formed message to another server

@@ -1,24 +1,24 @@
 -- In a run from fresh servers every record stays well formed and every message that waits is well formed: STATE and MESSAGE never arise.
-use Prim.Native.Nat.{ℕ, zero, suc, _+_, _≤_, _<_}
-use mathlib.Core.Path.{_≡_, refl, sym, ap, _∙_}
+use Prim.Native.Nat.{ℕ, _+_, _<_}
+use mathlib.Core.Path.{_≡_, refl, ap}
 use mathlib.Core.Logic.{_≢_, _⊎_, inl, inr, ⊎-elim}
 use mathlib.Core.Bool.{Bool, true, false, not}
 use mathlib.Core.List.{List, [], _∷_, _++_}
 use native.Mathlib.Omega.{arith}
-use lib.Dec.{eqb, leb, ltb}
-use borrow.Author.Tests.{ltb-true, lt-ltb, le-leb, lt-leb}
-use Rattle.base.specs.Choice.{pick, both, either, upd, upd₂}
+use lib.Dec.{eqb, ltb}
+use borrow.Author.Tests.{ltb-true}
+use Rattle.base.specs.Choice.{pick, either, upd, upd₂}
 use Rattle.base.specs.Refusals.{STATE, EVENT, MESSAGE, ROOM}
 use Rattle.base.specs.declared.Sizes.{Sizes}
-use Rattle.base.proofs.Choice.{case, clash, pick-at, upd-at, upd₂-at, tests}
+use Rattle.base.proofs.Choice.{clash, pick-at, upd-at, upd₂-at}
 use Rattle.base.proofs.Good.{good-nil}
 use Rattle.rules.specs.Message.{Msg, cepoch, newepoch, acke, newleader, ackld, commitld, propose, ack, commit, junk, Send, formed}
 use Rattle.rules.specs.Server.{Server, fresh, goodSizes, wellFormed}
-use Rattle.rules.specs.Tree.{Tree, need, Res, refused, taken, run, gate}
+use Rattle.rules.specs.Tree.{need, Res, refused, taken, run, gate}
 use Rattle.rules.specs.Step.{keeps, onOracle, onRestart, l1Join, l2Join, l34Join, onCepoch, l2Count, onAcke, l3Sync, l4Advance, onAckld, onAck, onNewepoch, onNewleader, onPropose, onCommit, receive, onSubmit, Input, oracle, restart, message, submit, step}
 use Rattle.rules.specs.Cluster.{Channels, Cluster, start, Event, O, R, D, S, emptied, post, roomy, Outcome, told, done, drops, answer, at, hand, event, after, play}
 use Rattle.rules.proofs.Trees.{All, all-append, all-map, Avoids, run-avoids}
-use Rattle.rules.proofs.WellFormed.{Whole, whole, whole-shown}
+use Rattle.rules.proofs.WellFormed.{Whole, whole-shown}
 use Rattle.rules.proofs.Kept.{Sendable, step-kept}
 
 -- ---- channels all of whose messages keep a claim

@@ -1,14 +1,14 @@
 -- The table and the step agree, for every kind and stage.
-use Prim.Native.Nat.{ℕ, zero, suc, _+_, _-_, _≤_, _<_}
-use mathlib.Core.Path.{_≡_, refl, sym, ap, _∙_}
-use mathlib.Core.Logic.{_≢_, _⊎_, inl, inr, ⊎-elim}
+use Prim.Native.Nat.{ℕ, _-_, _≤_, _<_}
+use mathlib.Core.Path.{_≡_, refl}
+use mathlib.Core.Logic.{_≢_, _⊎_, ⊎-elim}
 use mathlib.Core.Bool.{Bool, true, false, not}
-use mathlib.Core.List.{List, [], _∷_}
+use mathlib.Core.List.{List, []}
 use native.Mathlib.Omega.{arith}
-use lib.Dec.{eqb, leb, ltb}
+use lib.Dec.{eqb, leb}
 use lib.ListN.{length, getD, List·getD-eq-default}
-use borrow.Author.Tests.{eqb-true, leb-true, eq-eqb, ne-eqb}
-use Rattle.base.specs.Choice.{pick, both, either, allBelow}
+use borrow.Author.Tests.{leb-true, eq-eqb, ne-eqb}
+use Rattle.base.specs.Choice.{both, either, allBelow}
 use Rattle.base.specs.Refusals.{ROLE, SENDER, PHASE}
 use Rattle.base.specs.declared.Sizes.{Sizes}
 use Rattle.base.proofs.Choice.{le-or-lt, both-true, implied, all-at}

@@ -1,17 +1,16 @@
 -- What holds of every answer of a tree, and of everything that is sent.
 use Prim.Native.Nat.{ℕ, zero, suc, _+_, _≤_, _<_}
-use mathlib.Core.Path.{_≡_, refl, sym, ap, _∙_}
-use mathlib.Core.Logic.{_≢_, _⊎_, inl, inr, ⊎-elim}
+use mathlib.Core.Path.{_≡_, refl}
+use mathlib.Core.Logic.{_≢_, _⊎_, ⊎-elim}
 use mathlib.Core.Bool.{Bool, true, false, not}
 use mathlib.Core.List.{List, [], _∷_, _++_}
 use native.Mathlib.Omega.{arith}
 use lib.Dec.{eqb}
 use lib.ListN.{length, length-append}
-use borrow.Author.Tests.{eqb-true, eqb-false, eq-eqb, ne-eqb}
+use borrow.Author.Tests.{eqb-true, eqb-false, eq-eqb}
 use Rattle.base.specs.Choice.{pick, both}
 use Rattle.base.specs.Quorum.{Set}
-use Rattle.base.specs.Refusals.{ROLE, SENDER, PHASE}
-use Rattle.base.proofs.Choice.{both-true, not-is, eq-or, clash, both-no, case}
+use Rattle.base.proofs.Choice.{both-true, not-is, eq-or, clash, both-no}
 use Rattle.rules.specs.Message.{Msg, Send}
 use Rattle.rules.specs.Server.{Server}
 use Rattle.rules.specs.Table.{TAKEN, cell}

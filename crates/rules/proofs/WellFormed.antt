@@ -1,18 +1,16 @@
 -- What "well formed" says, clause by clause, as facts; and back.
-use Prim.Native.Nat.{ℕ, zero, suc, _+_, _≤_, _<_}
-use mathlib.Core.Path.{_≡_, refl, sym, ap, _∙_}
-use mathlib.Core.Logic.{_≢_, _⊎_, inl, inr, ⊎-elim}
-use mathlib.Core.Bool.{Bool, true, false, not}
-use mathlib.Core.List.{List, [], _∷_}
-use native.Mathlib.Omega.{arith}
+use Prim.Native.Nat.{ℕ, _+_, _≤_, _<_}
+use mathlib.Core.Path.{_≡_}
+use mathlib.Core.Logic.{_≢_, _⊎_, ⊎-elim}
+use mathlib.Core.Bool.{true, false, not}
 use lib.Dec.{eqb, leb, ltb}
 use lib.ListN.{length}
-use borrow.Author.Tests.{eqb-true, eqb-false, leb-true, ltb-true, ltb-false, le-leb, lt-leb, lt-ltb, le-ltb, eq-eqb, ne-eqb}
-use Rattle.base.specs.Choice.{both, either, allBelow}
+use borrow.Author.Tests.{eqb-true, eqb-false, leb-true, ltb-true, le-leb, lt-leb, lt-ltb, le-ltb, eq-eqb, ne-eqb}
+use Rattle.base.specs.Choice.{both, either}
 use Rattle.base.specs.Quorum.{Set}
-use Rattle.base.specs.Transaction.{Hist, LAST, goodHist}
+use Rattle.base.specs.Transaction.{LAST, goodHist}
 use Rattle.base.specs.declared.Sizes.{Sizes}
-use Rattle.base.proofs.Choice.{tests, case, clash, both-true, both-yes, both-no, either-true, either-left, either-right, not-is, is-not, implied, imply, unless, failed, all-at, all-of, le-or-lt}
+use Rattle.base.proofs.Choice.{case, clash, both-true, both-yes, both-no, either-true, either-left, either-right, not-is, is-not, implied, imply, unless, failed, all-at, all-of, le-or-lt}
 use Rattle.rules.specs.Server.{Dur, Vol, Server, goodSizes, during, empty, inside, goodDur, goodEpochs, goodOracle, goodSets, goodCounts, goodLargest, goodCandidate, wellFormed}
 
 -- ---- the facts

@@ -1,7 +1,6 @@
 -- The nine messages, and which are malformed.
 use Prim.Native.Nat.{ℕ}
-use mathlib.Core.Bool.{Bool, true, false}
-use mathlib.Core.List.{List, [], _∷_}
+use mathlib.Core.Bool.{Bool, false}
 use lib.Dec.{eqb, leb, ltb}
 use Rattle.base.specs.Choice.{both}
 use Rattle.base.specs.Transaction.{Hist, small, epochOf, counterOf, goodHist}

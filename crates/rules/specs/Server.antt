@@ -1,12 +1,12 @@
 -- The record of a server, a fresh one, and what is well formed.
 use Prim.Native.Nat.{ℕ, _+_}
-use mathlib.Core.Bool.{Bool, true, false, not}
-use mathlib.Core.List.{List, [], _∷_}
+use mathlib.Core.Bool.{Bool, not}
+use mathlib.Core.List.{[]}
 use lib.Dec.{eqb, leb, ltb}
 use lib.ListN.{length}
 use Rattle.base.specs.Choice.{both, either, allBelow}
 use Rattle.base.specs.Quorum.{Set, nobody}
-use Rattle.base.specs.Transaction.{Hist, small, rising, goodHist}
+use Rattle.base.specs.Transaction.{Hist, small, goodHist}
 use Rattle.base.specs.declared.Sizes.{Sizes}
 
 -- durable: promise, accepted epoch, delivered count, history

@@ -11,7 +11,7 @@ use Rattle.base.specs.Refusals.{EVENT, MESSAGE, ROLE, PHASE, EPOCH, GAP, UNDO, 
 use Rattle.base.specs.declared.Txn.{Txn}
 use Rattle.base.specs.declared.Sizes.{Sizes}
 use Rattle.rules.specs.Message.{Msg, cepoch, newepoch, acke, newleader, ackld, commitld, propose, ack, commit, junk, Send, formed}
-use Rattle.rules.specs.Server.{Dur, Vol, Server, LOOK, F1, F2, F3, F4, L1, L2, L3, L4, nil, idle}
+use Rattle.rules.specs.Server.{Dur, Vol, Server, LOOK, F1, F2, F3, F4, L1, L2, L3, L4, idle}
 use Rattle.rules.specs.Tree.{Tree, need, fork, deny, took, gate, toAll, only}
 
 -- ---- a record with one thing changed

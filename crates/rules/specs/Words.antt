@@ -1,15 +1,13 @@
 -- Words of 64 bits, and what they stand for: histories, messages in their slots, the record.
 -- This module alone knows how many words a transaction has.
 use Prim.Native.Nat.{ℕ, zero, suc, _+_, _-_, _*_}
-use mathlib.Core.Bool.{Bool, true, false, not}
+use mathlib.Core.Bool.{Bool, true, false}
 use mathlib.Core.List.{List, [], _∷_, _++_}
-use lib.Dec.{eqb, leb, ltb}
+use lib.Dec.{eqb, leb}
 use lib.ListN.{length, take, drop, getD}
 use Rattle.base.specs.Choice.{pick, both, either}
 use Rattle.base.specs.Quorum.{Set}
 use Rattle.base.specs.Transaction.{Hist}
-use Rattle.base.specs.declared.Epoch.{Epoch}
-use Rattle.base.specs.declared.Place.{Place}
 use Rattle.base.specs.declared.Txn.{Txn}
 use Rattle.base.specs.declared.Sizes.{Sizes}
 use Rattle.rules.specs.declared.State.{State}

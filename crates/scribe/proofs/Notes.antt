@@ -2,17 +2,14 @@
 use Prim.Native.Nat.{ℕ, zero, suc, _+_, _-_, _*_, _/_, _%_, _≤_, _<_}
 use mathlib.Core.Path.{_≡_, refl, sym, ap, _∙_, subst}
 use mathlib.Core.Logic.{_≢_, _⊎_, inl, inr, ⊎-elim}
-use mathlib.Core.Bool.{Bool, true, false, not}
+use mathlib.Core.Bool.{Bool, true, false}
 use mathlib.Core.List.{List, [], _∷_, _++_, map, append-assoc, append-nil}
 use native.Mathlib.Omega.{arith}
-use native.Mathlib.Numerals.{add-one}
-use lib.Dec.{eqb}
 use lib.ListN.{length, take, drop, getD, take-append-drop}
 use lib.Seq.{drop-drop, getD-drop}
 use borrow.Author.Tests.{eq-eqb, ne-eqb}
 use Rattle.base.specs.Choice.{pick, both}
-use Rattle.base.specs.Record.{Rec, E, B, «V», X, entry}
-use Rattle.base.specs.declared.Txn.{Txn}
+use Rattle.base.specs.Record.{Rec, E, B, «V»}
 use Rattle.rules.specs.declared.State.{State}
 use Rattle.rules.specs.Words.{txnAt, txns, put}
 use Rattle.script.specs.Text.{bytesOf, Wrote}

@@ -1,6 +1,6 @@
 // A script's line read, and a trace's record written, on lent bytes.
 ghost use mathlib.Core.Path.{_≡_};
-ghost use Prim.Native.Nat.{ℕ, _+_, _≤_, _<_};
+ghost use Prim.Native.Nat.{_+_, _≤_, _<_};
 ghost use lib.ListN.{length, drop};
 ghost use Rattle.script.specs.Line.{upto, shift, after, misled, number, oneNumber, twoNumbers, lineOf};
 ghost use Rattle.script.specs.Text.{digits, spaced, ending, two, four, header, bytesOf, recOf, Wrote};

@@ -12,9 +12,9 @@ use lib.Seq.{drop-cons, drop-drop, getD-drop, take-suc-set, take-all, take-suc}
 use borrow.Author.Tests.{eq-eqb, ne-eqb}
 use Rattle.base.specs.Choice.{both, pick}
 use Rattle.base.specs.Quorum.{weight, size}
-use Rattle.base.specs.Transaction.{Hist, sameHist, sameTxn, rising, follows}
+use Rattle.base.specs.Transaction.{sameHist, sameTxn, rising, follows}
 use Rattle.base.specs.declared.Txn.{Txn}
-use Rattle.rules.specs.Words.{txns, txnAt, zeros, allZero, has}
+use Rattle.rules.specs.Words.{txns, zeros, allZero, has}
 
 abbrev pub txnOf : ℕ → ℕ → Txn
 txnOf x y = record { id = record { 0 = x }; val = y }

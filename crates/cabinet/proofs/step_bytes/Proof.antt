@@ -1,19 +1,7 @@
-use Prim.Native.Nat.{ℕ, zero, suc, _+_, _-_, _*_, _≤_, _<_}
-use mathlib.Core.Path.{_≡_, refl, sym, ap, _∙_}
-use mathlib.Core.Bool.{Bool, true, false, not}
-use mathlib.Core.Logic.{_≢_, ⊎-elim, _⊎_, inl, inr}
-use mathlib.Core.List.{List, [], _∷_, _++_}
+use Prim.Native.Nat.{_+_, _-_, _*_}
+use mathlib.Core.Path.{sym}
 use native.Mathlib.Omega.{arith}
-use native.Mathlib.Numerals.{add-one}
-use lib.Dec.{eqb, leb, ltb}
-use lib.ListN.{length, take, drop, getD, set, length-set}
 use denote.Ref.{now}
-use Rattle.base.specs.Choice.{pick, both}
-use Rattle.base.proofs.Choice.{decide}
-use Rattle.rules.specs.Words.{put}
-use Rattle.octets.specs.Bytes.{wordsOf, bytesOf}
-use Rattle.octets.specs.Record.{bit, stateWords, stateAt, fits}
-use Rattle.cabinet.specs.Zab.{sized, slotted, lentWords, eventOf, Lent, Steps, zabOf, Does}
 use Rattle.cabinet.proofs.Laws.{step-refused, step-done, back-len}
 use borrow.Author.Needs.{needs}
 use Rattle.cabinet.proofs.step_bytes.Statement.{statement}

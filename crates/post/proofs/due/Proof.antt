@@ -1,18 +1,7 @@
-use Prim.Native.Nat.{ℕ, zero, suc, _+_, _-_, _*_, _≤_, _<_}
-use mathlib.Core.Path.{_≡_, refl, sym, ap, _∙_}
-use mathlib.Core.Bool.{Bool, true, false, not}
-use mathlib.Core.Logic.{_≢_, ⊎-elim, _⊎_, inl, inr}
-use mathlib.Core.List.{List, [], _∷_, _++_}
-use native.Mathlib.Omega.{arith}
-use native.Mathlib.Numerals.{add-one}
-use lib.Dec.{eqb, leb, ltb}
-use lib.ListN.{length, take, drop, getD, set, length-set}
-use denote.Ref.{now}
-use Rattle.rules.specs.Words.{has}
-use Rattle.ring.specs.Queue.{cell, count, goodRings, Ringed, Chan}
-use Rattle.ring.proofs.Laws.{ring-at, cell-low}
-use Rattle.post.specs.Room.{hit, due, fits}
-use Rattle.post.proofs.Rooms.{hit-self, hit-in, hit-out, due-bare, due-full, not-fits, does-fit, fits-on}
+use Prim.Native.Nat.{_-_, _≤_}
+use Rattle.ring.specs.Queue.{count}
+use Rattle.post.specs.Room.{hit}
+use Rattle.post.proofs.Rooms.{due-bare, due-full}
 use borrow.Author.Needs.{needs}
 use Rattle.post.proofs.due.Statement.{statement}
 use Rattle.post.proofs.due.Tie as tie

@@ -1,17 +1,9 @@
-use Prim.Native.Nat.{ℕ, zero, suc, _+_, _-_, _*_, _≤_, _<_}
-use mathlib.Core.Path.{_≡_, refl, sym, ap, _∙_}
-use mathlib.Core.Bool.{Bool, true, false, not}
-use mathlib.Core.Logic.{_≢_, ⊎-elim, _⊎_, inl, inr}
-use mathlib.Core.List.{List, [], _∷_, _++_}
+use Prim.Native.Nat.{ℕ, _+_, _-_, _*_, _≤_}
+use mathlib.Core.Path.{refl, ap}
 use native.Mathlib.Omega.{arith}
-use native.Mathlib.Numerals.{add-one}
-use lib.Dec.{eqb, leb, ltb}
-use lib.ListN.{length, take, drop, getD, set, length-set}
+use lib.ListN.{length, getD}
 use denote.Ref.{now}
 use lib.ListN.{length-drop, length-take}
-use Rattle.rules.specs.Words.{msgSize, slotSize}
-use Rattle.ring.specs.Queue.{cell, count, Ringed, Chan}
-use Rattle.post.specs.Posts.{toAt, wordsAt, Ready, Posted}
 use Rattle.post.proofs.Laws.{slot-box, posted-one}
 use borrow.Author.Needs.{needs}
 use Rattle.post.proofs.post_one.Statement.{statement}

@@ -1,14 +1,8 @@
-use Prim.Native.Nat.{ℕ, zero, suc, _+_, _-_, _*_, _≤_, _<_}
-use mathlib.Core.Path.{_≡_, refl, sym, ap, _∙_}
-use mathlib.Core.Bool.{Bool, true, false, not}
-use mathlib.Core.Logic.{_≢_, ⊎-elim, _⊎_, inl, inr}
-use mathlib.Core.List.{List, [], _∷_, _++_}
+use Prim.Native.Nat.{_-_}
+use mathlib.Core.Path.{_≡_}
+use mathlib.Core.Logic.{_≢_}
 use native.Mathlib.Omega.{arith}
-use lib.Dec.{eqb, leb, ltb}
-use lib.ListN.{length, take, drop, getD, set, length-set}
 use Rattle.scribe.proofs.Tells.{tell-refused, tell-taken, low, seen}
-use Rattle.rules.proofs.WellFormed.{sized}
-use Rattle.cluster.specs.Events.{meant, actor, asks}
 use Rattle.scribe.specs.Telling.{eventFor}
 use borrow.Author.Needs.{needs}
 use Rattle.scribe.proofs.tell.Statement.{statement}

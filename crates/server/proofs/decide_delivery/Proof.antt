@@ -1,18 +1,9 @@
-use Prim.Native.Nat.{ℕ, zero, suc, _+_, _-_, _*_, _≤_, _<_}
-use mathlib.Core.Path.{_≡_, refl, sym, ap, _∙_}
-use mathlib.Core.Bool.{Bool, true, false, not}
-use mathlib.Core.Logic.{_≢_, ⊎-elim, _⊎_, inl, inr}
-use mathlib.Core.List.{List, [], _∷_, _++_}
+use Prim.Native.Nat.{_-_}
 use native.Mathlib.Omega.{arith}
-use native.Mathlib.Numerals.{add-one}
-use lib.Dec.{eqb, leb, ltb}
-use lib.ListN.{length, take, drop, getD, set, length-set}
 use denote.Ref.{now}
-use Rattle.server.specs.Whole.{answerOf, loadAt, lentLen, Can, Known, Decides, Steps, Does, stepOf}
-use Rattle.rules.specs.Words.{msgSize}
 use lib.ListN.{length-drop}
 use Rattle.message.proofs.Laws.{part-all}
-use Rattle.server.proofs.Laws.{facts, Facts, sized-of, delivery-unknown, delivery-self, delivery-heard, on-oracle, on-restart, on-submit, on-unknown, on-deliver, may, carried, stood, state-not, lent-not, box-not, known-of, step-does, reads-ready, load-fits, can-deliver, not-yes, not-no, room-of, No}
+use Rattle.server.proofs.Laws.{facts, sized-of, delivery-unknown, delivery-self, delivery-heard, reads-ready}
 use borrow.Author.Needs.{needs}
 use Rattle.server.proofs.decide_delivery.Statement.{statement}
 use Rattle.server.proofs.decide_delivery.Tie as tie

@@ -1,5 +1,4 @@
 use mathlib.Core.Path.{_≡_, sym, _∙_}
-use mathlib.Core.List.{[]}
 use native.Mathlib.Omega.{arith}
 use Rattle.octets.proofs.Laws.{was-true}
 use Rattle.base.proofs.Choice.{not-is}
