@@ -1,10 +1,10 @@
 -- Laws of tests, of choice, and of functions changed at one place.
 use Prim.Native.Nat.{ℕ, zero, suc, _≤_, _<_}
-use mathlib.Core.Path.{_≡_, refl, sym, ap, _∙_}
+use mathlib.Core.Path.{_≡_, refl, sym, _∙_}
 use mathlib.Core.Logic.{_≢_, _⊎_, inl, inr, ⊎-elim, ⊎-map}
-use mathlib.Core.Bool.{Bool, true, false, not, false≢true, true≢false}
+use mathlib.Core.Bool.{Bool, true, false, not, true≢false}
 use native.Mathlib.Omega.{arith}
-use lib.Dec.{eqb, leb, ltb}
+use lib.Dec.{eqb}
 use borrow.Author.Tests.{eqb-true, eqb-false, leb-true, leb-false, ltb-true, ltb-false, le-leb, lt-leb, lt-ltb, le-ltb, eq-eqb, ne-eqb}
 use Rattle.base.specs.Choice.{pick, both, either, upd, upd₂, allBelow}
 
@@ -80,9 +80,19 @@ unfolding either
 either-right true b q = refl
 either-right false b q = q
 
+pub both-first : (a b c : Bool) → both a b ≡ false → both a (both b c) ≡ false
+unfolding both
+both-first true true c e = clash refl e
+both-first true false c e = refl
+both-first false b c e = refl
+
 pub not-is : (a : Bool) → not a ≡ true → a ≡ false
 not-is true e = clash e refl
 not-is false e = refl
+
+pub not-no : (a : Bool) → not a ≡ false → a ≡ true
+not-no true e = refl
+not-no false e = clash refl e
 
 pub is-not : (a : Bool) → a ≡ false → not a ≡ true
 is-not a e = rw e

@@ -1,18 +1,18 @@
 -- Histories: "begins with", "agree up to", rising identifiers; identifiers as numbers and as pairs.
-use Prim.Native.Nat.{ℕ, zero, suc, _+_, _*_, _/_, _%_, _≤_, _<_}
+use Prim.Native.Nat.{ℕ, zero, suc, _+_, _≤_, _<_}
 use mathlib.Core.Path.{_≡_, refl, sym, ap, _∙_}
-use mathlib.Core.Logic.{_≢_, _⊎_, inl, inr, ⊎-elim}
-use mathlib.Core.Bool.{Bool, true, false}
-use mathlib.Core.List.{List, [], _∷_, _++_}
+use mathlib.Core.Logic.{_⊎_, ⊎-elim}
+use mathlib.Core.Bool.{true}
+use mathlib.Core.List.{[], _∷_, _++_}
 use native.Mathlib.Omega.{arith}
-use lib.Dec.{eqb, leb, ltb}
+use lib.Dec.{eqb}
 use lib.ListN.{length, take, getD, length-take, length-append}
 use lib.Seq.{take-take, getD-take, take-length, take-append-le, getD-append-seam, length-take-le, take-suc}
-use borrow.Author.Tests.{eqb-true, eqb-false, leb-true, ltb-true, le-leb, lt-ltb, eq-eqb}
-use Rattle.base.specs.Choice.{pick, both}
-use Rattle.base.specs.Transaction.{Hist, none, ident, epochOf, counterOf, idAt, lastId, nextCounter, follows, rising, goodHist, sameTxn, sameHist}
+use borrow.Author.Tests.{eqb-true, eq-eqb}
+use Rattle.base.specs.Choice.{both}
+use Rattle.base.specs.Transaction.{Hist, none, ident, epochOf, counterOf, idAt, lastId, sameTxn, sameHist, Begins}
 use Rattle.base.specs.declared.Txn.{Txn}
-use Rattle.base.proofs.Choice.{tests, le-or-lt, by-contra, eq-or, both-true, both-yes, clash, pick-at}
+use Rattle.base.proofs.Choice.{le-or-lt, by-contra, both-true, both-yes, clash}
 
 -- ---- identifiers
 
@@ -34,34 +34,30 @@ less-pair x y h f = ⊎-elim (λ (k : epochOf y ≤ epochOf x). let c = f k in o
 
 -- ---- begins with
 
--- l begins with h
-abbrev pub Pre : Hist → Hist → Type 0
-Pre h l = take (length h) l ≡ h
-
-pub pre-len : (h l : Hist) → Pre h l → length h ≤ length l
+pub pre-len : (h l : Hist) → Begins h l → length h ≤ length l
 pre-len h l p = omega (arith, ap length p, length-take (length h) l)
 
-pub pre-refl : (l : Hist) → Pre l l
+pub pre-refl : (l : Hist) → Begins l l
 pre-refl l = take-length l
 
 -- two histories that are equal up to j are equal up to any i ≤ j
 pub agree-low : (i j : ℕ) (x y : Hist) → i ≤ j → take j x ≡ take j y → take i x ≡ take i y
 agree-low i j x y h p = sym (take-take i j x h) ∙ ap (take i) p ∙ take-take i j y h
 
-pub pre-take : (h l : Hist) (i : ℕ) → Pre h l → i ≤ length h → take i h ≡ take i l
+pub pre-take : (h l : Hist) (i : ℕ) → Begins h l → i ≤ length h → take i h ≡ take i l
 pre-take h l i p q = ap (take i) (sym p) ∙ take-take i (length h) l q
 
-pub take-pre : (l : Hist) (i : ℕ) → i ≤ length l → Pre (take i l) l
+pub take-pre : (l : Hist) (i : ℕ) → i ≤ length l → Begins (take i l) l
 take-pre l i q = ap (λ (k : ℕ). take k l) (length-take-le i l q)
 
-pub pre-trans : (a b c : Hist) → Pre a b → Pre b c → Pre a c
+pub pre-trans : (a b c : Hist) → Begins a b → Begins b c → Begins a c
 pre-trans a b c p q = sym (pre-take b c (length a) q (pre-len a b p)) ∙ p
 
 pub length-snoc : (h : Hist) (t : Txn) → length (h ++ (t ∷ [])) ≡ suc (length h)
 length-snoc h t = omega (arith, length-append h (t ∷ []))
 
 -- one more transaction of l
-pub pre-snoc : (h l : Hist) (t : Txn) → Pre h l → length h < length l → getD l (length h) none ≡ t → Pre (h ++ (t ∷ [])) l
+pub pre-snoc : (h l : Hist) (t : Txn) → Begins h l → length h < length l → getD l (length h) none ≡ t → Begins (h ++ (t ∷ [])) l
 pre-snoc h l t p k q = rw (length-snoc h t, take-suc l (length h) none k, p, q)
 
 -- ---- identifiers at places
@@ -76,11 +72,11 @@ id-agree (suc k) x y p =
 abbrev pub Rising : Hist → Type 0
 Rising l = (i j : ℕ) → i < j → j ≤ length l → idAt l i < idAt l j
 
-pub pre-last : (h l : Hist) → Pre h l → lastId h ≡ idAt l (length h)
+pub pre-last : (h l : Hist) → Begins h l → lastId h ≡ idAt l (length h)
 pre-last h l p = id-agree (length h) h l (take-length h ∙ sym p)
 
 -- of two beginnings of one rising history, the one whose last identifier is not less is not shorter
-pub last-longer : (l h k : Hist) → Rising l → Pre h l → Pre k l → lastId h ≤ lastId k → length h ≤ length k
+pub last-longer : (l h k : Hist) → Rising l → Begins h l → Begins k l → lastId h ≤ lastId k → length h ≤ length k
 last-longer l h k r ph pk q = by-contra (length h) (length k)
     (λ c. omega (arith, r (length k) (length h) c (pre-len h l ph), pre-last h l ph, pre-last k l pk))
 
@@ -106,7 +102,7 @@ rising-snoc l t r k i j lt le = ⊎-elim
     below : (n : ℕ) → n ≤ length l → idAt l n ≤ lastId l
     below n m = ⊎-elim (λ (x : length l ≤ n). let q : n ≡ length l = omega arith in rw q (omega arith)) (λ (x : n < length l). omega (arith, r n (length l) x (omega arith))) (le-or-lt (length l) n)
 
-pub rising-pre : (h l : Hist) → Pre h l → Rising l → Rising h
+pub rising-pre : (h l : Hist) → Begins h l → Rising l → Rising h
 rising-pre h l p r i j lt le = omega (arith, r i j lt (omega (arith, pre-len h l p)), same i (omega arith), same j le)
   where
     same : (n : ℕ) → n ≤ length h → idAt h n ≡ idAt l n

@@ -1,9 +1,10 @@
 -- Identifiers, transactions and histories.
 use Prim.Native.Nat.{ℕ, zero, suc, _+_, _*_, _/_, _%_}
+use mathlib.Core.Path.{_≡_}
 use mathlib.Core.Bool.{Bool, true, false}
 use mathlib.Core.List.{List, [], _∷_}
 use lib.Dec.{eqb, leb, ltb}
-use lib.ListN.{length, getD}
+use lib.ListN.{length, getD, take}
 use Rattle.base.specs.Choice.{pick, both}
 use Rattle.base.specs.declared.Txn.{Txn}
 
@@ -29,6 +30,10 @@ Hist = List Txn
 
 abbrev pub none : Txn
 none = record { id = record { 0 = 0 }; val = 0 }
+
+-- l begins with h
+abbrev pub Begins : Hist → Hist → Type 0
+Begins h l = take (length h) l ≡ h
 
 -- the identifier at a place of a history, places counted from 1; 0 at place 0
 unfoldable pub idAt : Hist → ℕ → ℕ

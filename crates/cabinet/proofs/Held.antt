@@ -12,8 +12,8 @@ use Rattle.rules.proofs.Words.{tab-get}
 use Rattle.octets.specs.Record.{stateWords, stateAt}
 use Rattle.octets.proofs.Laws.{length-bits}
 use Rattle.octets.proofs.Inverse.{state-back, words-of-state}
-use Rattle.cluster.specs.declared.Cluster.{Cluster}
-use Rattle.cluster.specs.Site.{none}
+use Rattle.site.specs.declared.Cluster.{Cluster}
+use Rattle.site.specs.Site.{none}
 use Rattle.cabinet.specs.Run.{recordPlace, recordWords, recordFits, ringWords, heldFits, clusterAt, fiveOf, recordsOf, heldOf}
 use Rattle.cabinet.proofs.Runs.{Fit, fit-of, records-snoc}
 

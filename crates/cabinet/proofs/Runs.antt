@@ -8,7 +8,7 @@ use native.Mathlib.Omega.{arith}
 use native.Mathlib.Numerals.{add-one}
 use lib.Dec.{eqb, leb}
 use lib.ListN.{length, take, drop, getD, set, length-append, length-drop, drop-of-length-le}
-use lib.Seq.{drop-cons, set-at, append-snoc, take-suc, take-at, drop-at, drop-drop, length-take-le, take-all, getD-drop, getD-take}
+use lib.Seq.{drop-cons, set-at, append-snoc, take-suc, length-take-le, take-all, getD-drop, getD-take}
 use borrow.Author.Tests.{eqb-true, leb-true, eq-eqb, ne-eqb, le-leb, lt-leb}
 use borrow.Rule.Slice.PartMut.{putMid}
 use Rattle.base.specs.Choice.{pick, both, allBelow}
@@ -18,13 +18,13 @@ use Rattle.base.proofs.Choice.{both-true, clash, case, eq-or, all-at, all-of}
 use Rattle.rules.specs.declared.State.{State}
 use Rattle.rules.specs.Cluster.{Event}
 use Rattle.rules.specs.Words.{tab, put}
-use Rattle.rules.proofs.Words.{mid-put}
+use Rattle.rules.proofs.Words.{mid-put, put-put}
 use Rattle.octets.specs.Bytes.{under, BYTE}
 use Rattle.octets.specs.Record.{stateWords, stateAt}
 use Rattle.octets.proofs.Laws.{under-of, part-at, put-more, put-none}
-use Rattle.cluster.specs.declared.Cluster.{Cluster}
+use Rattle.site.specs.declared.Cluster.{Cluster}
 use Rattle.cluster.specs.declared.Ran.{Ran}
-use Rattle.cluster.specs.Site.{Site, siteOf, none}
+use Rattle.site.specs.Site.{Site, siteOf, none}
 use Rattle.cluster.specs.Runs.{eventsOf, Runs}
 use Rattle.cabinet.specs.Zab.{sizes}
 use Rattle.cabinet.specs.Run.{recordPlace, recordWords, recordFits, ringWords, heldFits, clusterAt, fiveOf, recordsOf, heldOf, Finish, halts, ran, mayRun, runOf, Finishes}
@@ -138,19 +138,6 @@ pub ring-put-end : (w₀ w q : List ℕ) (at i : ℕ) → i ≡ 49 → length q 
 ring-put-end w₀ w q at i l m e = e ∙ ap (put w₀ at) (take-all i q (omega arith))
 
 -- ---- words put one after the other
-
-put-put : (q a b : List ℕ) (at : ℕ) → at ≤ length q → put (put q at a) (at + length a) b ≡ put q at (a ++ b)
-unfolding put
-put-put q a b at h =
-    let n = at + length a in
-    let p = take at q ++ a in
-    let rest = drop n q in
-    let len : length p ≡ n = simp (length-append, length-take-le at q h) in
-    let num : n + length b ≡ at + length (a ++ b) = simp length-append (omega arith) in
-    let e1 : take n (p ++ rest) ≡ p = take-at p rest n len in
-    let e2 : drop (n + length b) (p ++ rest) ≡ drop (at + length (a ++ b)) q =
-    sym (drop-drop (length b) n (p ++ rest)) ∙ (ap (drop (length b)) (drop-at p rest n len) ∙ (drop-drop (length b) n q ∙ ap (λ (k : ℕ). drop k q) num)) in
-    (λ i. e1 i ++ b ++ e2 i) ∙ ap (λ (x : List ℕ). x ++ drop (at + length (a ++ b)) q) (append-assoc (take at q) a b)
 
 put-next : (q a b : List ℕ) (at n : ℕ) → at ≤ length q → at + length a ≡ n → put (put q at a) n b ≡ put q at (a ++ b)
 put-next q a b at n h e = rw (← e) (put-put q a b at h)
@@ -290,7 +277,7 @@ module _ (w h k q o es : List ℕ) (budget : ℕ) where
     run-done b w′ f y e r z x = rw (run-fit (sym f ∙ y), ← e) (went (mayRun c h k q o es) _ (eventsOf (c .sizes) es budget) w′ r z x)
 
 -- two results that meet the statement are equal, and so is every word
-pub one-run : (x : Finish) (r r′ : ℕ) (w h k q o w′ h′ k′ q′ o′ : List ℕ) → Finishes x r w h k q o → Finishes x r′ w′ h′ k′ q′ o′
+pub one-finish : (x : Finish) (r r′ : ℕ) (w h k q o w′ h′ k′ q′ o′ : List ℕ) → Finishes x r w h k q o → Finishes x r′ w′ h′ k′ q′ o′
     → (r ≡ r′) × ((w ≡ w′) × ((h ≡ h′) × ((k ≡ k′) × ((q ≡ q′) × (o ≡ o′)))))
-one-run x r r′ w h k q o w′ h′ k′ q′ o′ a b =
+one-finish x r r′ w h k q o w′ h′ k′ q′ o′ a b =
     (a .code ∙ sym (b .code), (a .held ∙ sym (b .held), (a .hists ∙ sym (b .hists), (a .cands ∙ sym (b .cands), (a .queue ∙ sym (b .queue), a .box ∙ sym (b .box))))))

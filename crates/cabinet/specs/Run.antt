@@ -15,8 +15,8 @@ use Rattle.rules.specs.Words.{tab}
 use Rattle.octets.specs.Bytes.{under, BYTE}
 use Rattle.octets.specs.Record.{RECORD, stateWords, stateAt, fits}
 use Rattle.ring.specs.Queue.{RINGS}
-use Rattle.cluster.specs.declared.Cluster.{Cluster}
-use Rattle.cluster.specs.Site.{Site, siteOf, clusterOf}
+use Rattle.site.specs.declared.Cluster.{Cluster}
+use Rattle.site.specs.Site.{Site, siteOf, clusterOf}
 use Rattle.cluster.specs.Runs.{eventsOf, played, tally, goodRun}
 use Rattle.cabinet.specs.Zab.{sizes}
 

@@ -19,8 +19,8 @@ use Rattle.rules.specs.Server.{F4, L4}
 use Rattle.rules.specs.Table.{cell, table}
 use Rattle.rules.specs.Tree.{run, gate, toAll}
 use Rattle.rules.specs.Step.{step, receive, onOracle, onCepoch, l1Join, l2Join, l34Join, onAcke, beats, l2Count, onAckld, l3Sync, l4Advance, advanced, advance, onAck, onNewepoch, onNewleader, keeps, onPropose, onCommit, onSubmit}
-use Rattle.rules.specs.Cluster.{Cluster, Event, O, D, S, told, start, emptied, post, roomy, drops, answer, at, hand, event, after, play}
-use Rattle.calm.specs.Calm.{Reached, below, Crew, among, Others, naming, isDone, allDone, Lively, Recovered, Round}
+use Rattle.rules.specs.Cluster.{Cluster, Event, O, D, S, told, start, emptied, post, roomy, drops, answer, at, hand, event, after, play, isDone}
+use Rattle.calm.specs.Calm.{Reached, below, Crew, among, Others, naming, allDone, Lively, Recovered, Round}
 use Rattle.calm.proofs.Theorem.{calm-run, quorum-run}
 
 -- ---- every server but x can be named

@@ -18,8 +18,8 @@ use Rattle.rules.specs.Message.{Msg, Send, formed}
 use Rattle.rules.specs.Server.{Server}
 use Rattle.rules.specs.Tree.{taken, toAll}
 use Rattle.rules.specs.Step.{receive}
-use Rattle.rules.specs.Cluster.{Cluster, Channels, D, post, Outcome, event, after}
-use Rattle.calm.specs.Calm.{Crew, isDone}
+use Rattle.rules.specs.Cluster.{Cluster, Channels, D, post, Outcome, event, after, isDone}
+use Rattle.calm.specs.Calm.{Crew}
 use Rattle.calm.proofs.Laws.{over, pick-nil, both-right, Runs, to, post-at, each, to-each, to-set}
 use Rattle.calm.proofs.Effect.{delivered}
 

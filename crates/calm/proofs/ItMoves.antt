@@ -1,25 +1,24 @@
 -- It moves: the second half of demand 3, of every state that a run from fresh servers reaches. Nothing is assumed but the sizes and room for two.
 use Prim.Native.Nat.{ℕ, _+_, _-_, _*_, _≤_, _<_}
-use mathlib.Core.Path.{_≡_, refl, sym, ap, _∙_}
+use mathlib.Core.Path.{_≡_, refl}
 use mathlib.Core.Logic.{_≢_}
-use mathlib.Core.Bool.{Bool, true, false}
+use mathlib.Core.Bool.{true}
 use mathlib.Core.List.{List, [], _∷_, _++_}
 use native.Mathlib.Omega.{arith}
 use lib.ListN.{length}
 use Rattle.base.specs.Quorum.{Set, size}
 use Rattle.base.specs.Refusals.{UNDO}
-use Rattle.base.specs.Transaction.{Hist, LAST, ident, lastId}
+use Rattle.base.specs.Transaction.{LAST, ident, lastId}
 use Rattle.base.specs.declared.Sizes.{Sizes}
 use Rattle.rules.specs.Message.{Msg, formed}
 use Rattle.rules.specs.Server.{goodSizes}
-use Rattle.rules.specs.Cluster.{Cluster, start, Event, S, told, event, after, play}
+use Rattle.rules.specs.Cluster.{Cluster, start, Event, S, told, event, after, play, isDone}
 use Rattle.rules.proofs.Trees.{All}
 use Rattle.rules.proofs.WellFormed.{sized}
 use Rattle.rules.proofs.Runs.{Fine, run-healthy}
 use Rattle.ledger.proofs.NeverUndo.{never-undo}
-use Rattle.calm.specs.Calm.{Reached, below, Crew, Others, naming, isDone, allDone, Lively, Recovered, Established, Round, submitted-entry}
+use Rattle.calm.specs.Calm.{Reached, below, Crew, Others, naming, allDone, Lively, Recovered, Established, Round, submitted-entry}
 use Rattle.calm.proofs.Theorem
-use Rattle.calm.proofs.Theorem.{reached-play}
 
 never : (z : Sizes) (depth : ℕ) (c : Cluster) → Reached z depth c → (e : Event) (c′ : Cluster) → event z depth c e ≢ told UNDO c′
 never z depth c r e c′ = rw (r .played) (never-undo z depth (r .events) e c′)

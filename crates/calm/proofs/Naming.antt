@@ -16,8 +16,8 @@ use Rattle.base.proofs.Quorum.{quorum-alone}
 use Rattle.rules.specs.Message.{Msg, cepoch}
 use Rattle.rules.specs.Server.{Server, F1, L1, nil}
 use Rattle.rules.specs.Step.{step, onOracle}
-use Rattle.rules.specs.Cluster.{Cluster, O, emptied, post, done, event, after, play}
-use Rattle.calm.specs.Calm.{Crew, among, Others, naming, isDone, allDone}
+use Rattle.rules.specs.Cluster.{Cluster, O, emptied, post, done, event, after, play, isDone}
+use Rattle.calm.specs.Calm.{Crew, among, Others, naming, allDone}
 use Rattle.calm.proofs.Laws.{over, sole, pass, one, two, leaf, each, to-each, post-at}
 use Rattle.calm.proofs.Effect.{next, turned}
 use Rattle.calm.proofs.Engine.{Calm}

@@ -15,8 +15,8 @@ use Rattle.base.specs.declared.Sizes.{Sizes}
 use Rattle.base.proofs.Choice.{eq-or, all-at, both-yes, either-left}
 use Rattle.base.proofs.Quorum.{quorum-more}
 use Rattle.rules.specs.Message.{Msg, formed}
-use Rattle.rules.specs.Cluster.{Cluster, Event, D, told, event, after, play}
-use Rattle.calm.specs.Calm.{Crew, isDone, allDone, Lively, end, then, Waiting}
+use Rattle.rules.specs.Cluster.{Cluster, Event, D, told, event, after, play, isDone}
+use Rattle.calm.specs.Calm.{Crew, allDone, Lively, end, then, Waiting}
 use Rattle.calm.proofs.Laws.{over}
 use Rattle.calm.proofs.Engine.{Scene, Sys, total, total-at, Calm, Step, cell-to, cell-from}
 

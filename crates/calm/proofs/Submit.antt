@@ -20,8 +20,8 @@ use Rattle.rules.specs.Server.{Server, F4, L4, idle}
 use Rattle.rules.specs.Table.{cell, table}
 use Rattle.rules.specs.Tree.{taken, toAll}
 use Rattle.rules.specs.Step.{step, submit, receive, onPropose, onCommit, onAck, onSubmit, submission, l4Advance, advanced, advance, holders}
-use Rattle.rules.specs.Cluster.{Cluster, Event, D, S, post, event, done, after}
-use Rattle.calm.specs.Calm.{Crew, isDone, Lively, full, Ready, Established, Round, submitted-entry}
+use Rattle.rules.specs.Cluster.{Cluster, Event, D, S, post, event, done, after, isDone}
+use Rattle.calm.specs.Calm.{Crew, Lively, full, Ready, Established, Round, submitted-entry}
 use Rattle.calm.proofs.Laws.{over, sole, pick-nil, over-upd, over-same, over-over, both-right, Runs, pass, leaf, gated, each, to-set, post-at}
 use Rattle.calm.proofs.Effect.{next, submitted}
 use Rattle.calm.proofs.Engine.{Scene, Sys, total, Calm, Step, Kept, cell-to, cell-from, to-follower, reply, announce, want-short}

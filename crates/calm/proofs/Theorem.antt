@@ -14,8 +14,8 @@ use Rattle.base.specs.declared.Sizes.{Sizes}
 use Rattle.base.proofs.Quorum.{quorum-all, size-all, weigh-more, everyone}
 use Rattle.rules.specs.Message.{Msg, formed}
 use Rattle.rules.specs.Server.{Server}
-use Rattle.rules.specs.Cluster.{Cluster, Event, D, S, told, event, after, play, start}
-use Rattle.calm.specs.Calm.{Reached, below, Crew, Others, naming, isDone, allDone, Lively, Ready, Established, Recovered, Round, submitted-entry}
+use Rattle.rules.specs.Cluster.{Cluster, Event, D, S, told, event, after, play, start, isDone}
+use Rattle.calm.specs.Calm.{Reached, below, Crew, Others, naming, allDone, Lively, Ready, Established, Recovered, Round, submitted-entry}
 use Rattle.calm.proofs.Play.{Sure}
 use Rattle.calm.proofs.Naming.{naming-taken}
 use Rattle.calm.proofs.Recover.{recovers, recovers-exists}

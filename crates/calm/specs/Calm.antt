@@ -12,7 +12,7 @@ use Rattle.base.specs.Transaction.{Hist, ident, lastId, nextCounter}
 use Rattle.base.specs.declared.Txn.{Txn}
 use Rattle.base.specs.declared.Sizes.{Sizes}
 use Rattle.rules.specs.Server.{F4, L4, idle}
-use Rattle.rules.specs.Cluster.{Cluster, Event, O, D, Outcome, told, done, event, after, play, start}
+use Rattle.rules.specs.Cluster.{Cluster, Event, O, D, event, after, play, start, isDone}
 
 -- the clusters that events lead to from fresh servers with nothing waiting
 pub record Reached (z : Sizes) (depth : ℕ) (c : Cluster) : Type 0 where
@@ -42,10 +42,6 @@ unfoldable pub naming : ℕ → List ℕ → List Event
 naming x fs = O x x ∷ map (λ f. O f x) fs
 
 -- ---- events that are taken
-
-unfoldable pub isDone : Outcome → Bool
-isDone (told k c) = false
-isDone (done i s s′ asked c) = true
 
 -- is every one of them, in turn?
 unfoldable pub allDone : Sizes → ℕ → Cluster → List Event → Bool

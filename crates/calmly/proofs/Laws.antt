@@ -9,8 +9,8 @@ use lib.Seq.{length-take-le}
 use borrow.Author.Tests.{le-leb}
 use Rattle.base.specs.Choice.{both}
 use Rattle.rules.specs.Server.{goodSizes}
-use Rattle.cluster.specs.Site.{fitting}
-use Rattle.cluster.proofs.Goods.{fit-shown}
+use Rattle.site.specs.Site.{fitting}
+use Rattle.site.proofs.Goods.{fit-shown}
 use Rattle.calmly.specs.Counts.{sizesOf}
 
 -- the words of the channels

@@ -5,11 +5,10 @@ use mathlib.Core.Bool.{Bool}
 use mathlib.Core.List.{List}
 use Rattle.base.specs.declared.Sizes.{Sizes}
 use Rattle.rules.specs.Cluster.{Event}
-use Rattle.cluster.specs.Site.{Site, siteOf}
-use Rattle.cluster.specs.Events.{After, Leaves}
+use Rattle.site.specs.Site.{Site, siteOf}
 use Rattle.cluster.specs.Runs.{Happens, Freshly, Runs}
-use Rattle.cluster.specs.declared.Cluster.{Cluster}
-use Rattle.cluster.specs.declared.Told.{Told}
+use Rattle.site.specs.declared.Cluster.{Cluster}
+use Rattle.site.specs.declared.Told.{Told}
 use Rattle.cluster.specs.declared.Ran.{Ran}
 
 -- the same site, sizes and depth are the same structs and words

@@ -1,4 +1,6 @@
 -- Many events, one after the other: what is left of them, from each on.
+use Rattle.rules.proofs.WellFormed.{sized}
+use Rattle.turn.proofs.Outcomes.{outcome-done, outcome-after}
 use Prim.Native.Nat.{ℕ, zero, suc, _+_, _-_, _*_, _/_, _%_, _≤_, _<_}
 use mathlib.Core.Path.{_≡_, refl, sym, ap, _∙_, subst}
 use mathlib.Core.Logic.{_≢_}
@@ -13,21 +15,20 @@ use borrow.Author.Tests.{eq-eqb, ne-eqb, le-leb, lt-leb, lt-ltb, le-ltb}
 use Rattle.base.specs.Choice.{pick, both}
 use Rattle.base.specs.declared.Sizes.{Sizes}
 use Rattle.base.proofs.Choice.{clash, both-yes, both-no}
-use Rattle.rules.specs.Cluster.{Cluster as Servers, Event, told, done, event, after, play}
-use Rattle.calm.specs.Calm.{isDone}
+use Rattle.rules.specs.Cluster.{Cluster as Servers, Event, event, after, play, isDone}
 use Rattle.ring.specs.declared.Rings.{Rings}
 use Rattle.ring.specs.Queue.{count, chans, Chan}
 use Rattle.ring.proofs.Laws.{chan-count}
-use Rattle.cluster.specs.Site.{Site, siteOf, clusterOf, goodSite, Good}
-use Rattle.cluster.specs.Events.{After, meant, eventOf, outcomeOf, wholeEvent}
-use Rattle.cluster.specs.Turns.{afterOf, Turned}
+use Rattle.site.specs.Site.{Site, siteOf, clusterOf, goodSite, Good}
+use Rattle.turn.specs.Events.{meant, eventOf, wholeEvent}
+use Rattle.turn.specs.Turns.{afterOf, Turned}
 use Rattle.cluster.specs.Runs.{named, eventAt, eventsFrom, within, eventsOf, played, tally, goodRun, Happens, On, Does, refusedOf, Runs, channelAt, lowest, lowestRing, easings}
-use Rattle.cluster.specs.declared.Cluster.{Cluster}
-use Rattle.cluster.specs.declared.Told.{Told}
+use Rattle.site.specs.declared.Cluster.{Cluster}
+use Rattle.site.specs.declared.Told.{Told}
 use Rattle.cluster.specs.declared.Ran.{Ran}
-use Rattle.cluster.specs.declared.Happening.{Happening}
-use Rattle.cluster.specs.declared.Happening.the-variants as happens
-use Rattle.cluster.proofs.Goods.{sizes-facts, good-shown}
+use Rattle.turn.specs.declared.Happening.{Happening}
+use Rattle.turn.specs.declared.Happening.the-variants as happens
+use Rattle.site.proofs.Goods.{good-shown}
 
 -- ---- an event in its words
 
@@ -52,24 +53,6 @@ unfolding meant eventAt named pick
 read-unknown es j a b c d z = rw (ne-eqb _ 1 a, ne-eqb _ 2 b, ne-eqb _ 3 c, ne-eqb _ 4 d)
 
 -- ---- one event
-
-done-is : (b : Bool) (i : ℕ) (s t : _) (a : Bool) (c : Servers) (k : ℕ) (d : Servers) → isDone (pick b (done i s t a c) (told k d)) ≡ b
-unfolding isDone pick
-done-is true i s t a c k d = refl
-done-is false i s t a c k d = refl
-
-after-is : (b : Bool) (i : ℕ) (s t : _) (a : Bool) (c : Servers) (k : ℕ) → after (pick b (done i s t a c) (told k c)) ≡ c
-unfolding after pick
-after-is true i s t a c k = refl
-after-is false i s t a c k = refl
-
-pub outcome-done : (z : Sizes) (depth : ℕ) (e : Event) (w : Site) (x : After) → isDone (outcomeOf z depth e w x) ≡ eqb (x .code) 0
-unfolding outcomeOf
-outcome-done z depth e w x = done-is (eqb (x .code) 0) _ _ _ _ _ _ _
-
-pub outcome-after : (z : Sizes) (depth : ℕ) (e : Event) (w : Site) (x : After) → after (outcomeOf z depth e w x) ≡ clusterOf z depth (x .site)
-unfolding outcomeOf
-outcome-after z depth e w x = after-is (eqb (x .code) 0) _ _ _ _ _ _
 
 pub on-does : (t : Ran) (e : Event) (h k q o : List ℕ) (a : Told) (h′ k′ q′ o′ : List ℕ) (x : ℕ) → Turned (t .cluster) e h k q o a h′ k′ q′ o′ → x ≡ pick (eqb (a .code) 0) 1 0
     → On t e h k q o (record { code = 0; met = t .met + 1; taken = t .taken + x; cluster = a .cluster }) h′ k′ q′ o′
@@ -246,7 +229,7 @@ low-same z depth w some j (suc k) e =
     ∙ ap (λ (i : ℕ). pick (leb 1 (count (w .rings) j)) j i) (low-same z depth w some (suc j) k (omega arith))
 
 pub low-is : (z : Sizes) (depth : ℕ) (w : Site) → Good z depth w → lowest z (clusterOf z depth w) 0 (z .n * z .n) ≡ lowestRing (w .rings) 0 (z .n * z .n)
-low-is z depth w g = let s = sizes-facts z (g .sizes) .0 .0 in low-same z depth w (omega arith) 0 (z .n * z .n) (omega arith)
+low-is z depth w g = let s = sized z (g .sizes) .three in low-same z depth w (omega arith) 0 (z .n * z .n) (omega arith)
 
 -- ---- settling
 

@@ -1,25 +1,23 @@
 -- Many events: a fresh cluster, a run of events from lent words, and settling.
-use Prim.Native.Nat.{ℕ, zero, suc, _+_, _-_, _*_, _/_, _%_, _≤_, _<_}
+use Prim.Native.Nat.{ℕ, zero, suc, _+_, _*_, _/_, _%_}
 use mathlib.Core.Path.{_≡_}
-use mathlib.Core.Bool.{Bool, true, false}
-use mathlib.Core.List.{List, [], _∷_, _++_}
+use mathlib.Core.Bool.{Bool, true}
+use mathlib.Core.List.{List, [], _∷_}
 use lib.Dec.{eqb, leb, ltb}
 use lib.ListN.{length, getD, replicate}
 use Rattle.base.specs.Choice.{pick, both}
 use Rattle.base.specs.Refusals.{STATE}
 use Rattle.base.specs.declared.Sizes.{Sizes}
-use Rattle.rules.specs.declared.State.{State}
 use Rattle.rules.specs.Server.{fresh}
-use Rattle.rules.specs.Cluster.{Cluster as Servers, Event, O, R, D, S, start, play, event, after}
+use Rattle.rules.specs.Cluster.{Cluster as Servers, Event, O, R, D, S, start, play, event, after, isDone}
 use Rattle.rules.specs.Words.{tab, zeros, stateOf}
 use Rattle.ring.specs.declared.Rings.{Rings}
 use Rattle.ring.specs.Queue.{count}
-use Rattle.calm.specs.Calm.{isDone}
-use Rattle.cluster.specs.Site.{Site, siteOf, clusterOf, fitting, goodSite, Good}
-use Rattle.cluster.specs.Events.{After, stays, eventOf, wholeEvent, outcomeOf, Leaves}
-use Rattle.cluster.specs.Turns.{afterOf}
-use Rattle.cluster.specs.declared.Cluster.{Cluster}
-use Rattle.cluster.specs.declared.Told.{Told}
+use Rattle.site.specs.Site.{Site, siteOf, clusterOf, fitting, goodSite, Good}
+use Rattle.turn.specs.Events.{eventOf, wholeEvent, outcomeOf, Leaves}
+use Rattle.turn.specs.Turns.{afterOf}
+use Rattle.site.specs.declared.Cluster.{Cluster}
+use Rattle.site.specs.declared.Told.{Told}
 use Rattle.cluster.specs.declared.Ran.{Ran}
 
 -- ---- any event: the whole answer; and of what is well formed, what the rules do

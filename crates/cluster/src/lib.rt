@@ -1,43 +1,14 @@
 // The cluster: servers and the channels between them. It leans on the server's promises alone.
-mod act;
-mod good;
 mod many;
 mod start;
-mod turn;
 
 use base::Sizes;
-use ring::Rings;
-use rules::State;
-ghost use mathlib.Core.Path.{_≡_};
-ghost use mathlib.Core.Bool.{true};
-ghost use Prim.Native.Nat.{ℕ};
-ghost use Rattle.cluster.specs.Site.{siteOf, clusterOf, goodSite};
-ghost use Rattle.cluster.specs.Events.{meant};
+use site::Cluster;
+use site::Told;
+use turn::Happening;
+ghost use Rattle.site.specs.Site.{siteOf, clusterOf, goodSite};
+ghost use Rattle.turn.specs.Events.{meant};
 ghost use Rattle.cluster.specs.Runs.{eventsOf, goodRun, easings, Happens, Freshly, Runs};
-
-// Seven places for servers, of which the first n are used, and the rings of the channels. Histories, candidates, queue and
-// outbox are lent beside it.
-pub struct Cluster {
-    pub sizes: Sizes,
-    pub depth: u8,
-    pub servers: [State; 7],
-    pub rings: Rings,
-}
-
-// What may happen, as a script says it: O s x, R s, D from to, S s v; and anything else.
-pub enum Happening {
-    Oracle(u64, u64),
-    Restart(u64),
-    Deliver(u64, u64),
-    Submit(u64, u64),
-    Unknown,
-}
-
-// The refusal or 0, and the cluster afterwards.
-pub struct Told {
-    pub code: u8,
-    pub cluster: Cluster,
-}
 
 // How many events a run met, and how many of them were taken; 1 if what was lent is not well formed.
 pub struct Ran {
@@ -58,7 +29,7 @@ pub fn event<'a>(
 ) -> Told
     ensures { λ t. ⌜ Happens c (meant (c .sizes) e) (now (hists .entry)) (now (cands .entry)) (now (queue .entry)) (now (out .entry)) t (now (hists .exit)) (now (cands .exit)) (now (queue .exit)) (now (out .exit)) ⌝ }
 {
-    if !good::good(c, hists, cands, queue, out) {
+    if !site::good(c, hists, cands, queue, out) {
         return Told {
             code: 1,
             cluster: c,
@@ -79,7 +50,7 @@ pub fn fresh(
     ensures { λ t. ⌜ Freshly z depth (now (hists .entry)) (now (cands .entry)) (now (queue .entry)) (now (out .entry)) t (now (hists .exit)) (now (cands .exit)) (now (queue .exit)) ⌝ }
 {
     let c = start::fresh_cluster(z, depth);
-    if !good::may_lend(z, depth, hists.len(), cands.len(), queue.len(), out.len()) {
+    if !site::may_lend(z, depth, hists.len(), cands.len(), queue.len(), out.len()) {
         return Told {
             code: 1,
             cluster: c,
@@ -106,7 +77,7 @@ pub fn run<'a>(
 ) -> Ran
     ensures { λ t. ⌜ Runs c (goodRun (c .sizes) (c .depth) (siteOf c (now (hists .entry)) (now (cands .entry)) (now (queue .entry)) (now (out .entry))) (now (es .entry))) (eventsOf (c .sizes) (now (es .entry)) budget) (now (hists .entry)) (now (cands .entry)) (now (queue .entry)) (now (out .entry)) t (now (hists .exit)) (now (cands .exit)) (now (queue .exit)) (now (out .exit)) ⌝ }
 {
-    if !good::good(c, hists, cands, queue, out) {
+    if !site::good(c, hists, cands, queue, out) {
         return many::refused(c);
     }
     if es.len() % 3 != 0 {
@@ -130,7 +101,7 @@ pub fn settle<'a>(
 ) -> Ran
     ensures { λ t. ⌜ Runs c (goodSite (c .sizes) (c .depth) (siteOf c (now (hists .entry)) (now (cands .entry)) (now (queue .entry)) (now (out .entry)))) (easings (c .sizes) (c .depth) budget (clusterOf (c .sizes) (c .depth) (siteOf c (now (hists .entry)) (now (cands .entry)) (now (queue .entry)) (now (out .entry))))) (now (hists .entry)) (now (cands .entry)) (now (queue .entry)) (now (out .entry)) t (now (hists .exit)) (now (cands .exit)) (now (queue .exit)) (now (out .exit)) ⌝ }
 {
-    if !good::good(c, hists, cands, queue, out) {
+    if !site::good(c, hists, cands, queue, out) {
         return many::refused(c);
     }
     many::ease(c, budget, hists, cands, queue, out)

@@ -1,18 +1,17 @@
 // Many events: the cluster is tested once and not at each event.
-use crate::Cluster;
-use crate::Happening;
 use crate::Ran;
-use crate::turn;
 use base::Sizes;
 use ring::Rings;
+use site::Cluster;
+use turn::Happening;
 ghost use mathlib.Core.Path.{_≡_};
-ghost use Prim.Native.Nat.{ℕ, _+_, _*_, _≤_, _<_};
+ghost use Prim.Native.Nat.{_+_, _*_, _≤_, _<_};
 ghost use lib.Dec.{eqb};
 ghost use lib.ListN.{length};
 ghost use Rattle.base.specs.Choice.{pick};
 ghost use Rattle.base.specs.declared.Sizes.{Sizes};
-ghost use Rattle.cluster.specs.Site.{siteOf, clusterOf, Good};
-ghost use Rattle.cluster.specs.Events.{meant};
+ghost use Rattle.site.specs.Site.{siteOf, clusterOf, Good};
+ghost use Rattle.turn.specs.Events.{meant};
 ghost use Rattle.cluster.specs.Runs.{eventAt, eventsFrom, lowestRing, easings, On, Does, refusedOf};
 
 // Event j of the lent words.

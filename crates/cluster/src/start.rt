@@ -1,10 +1,10 @@
 // A fresh cluster.
-use crate::Cluster;
 use base::Epoch;
 use base::Place;
 use base::Sizes;
 use ring::Rings;
 use rules::State;
+use site::Cluster;
 ghost use mathlib.Core.Path.{_≡_};
 ghost use Rattle.rules.specs.Server.{fresh};
 ghost use Rattle.rules.specs.Words.{stateOf};

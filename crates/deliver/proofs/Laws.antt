@@ -16,14 +16,14 @@ use Rattle.base.specs.declared.Txn.{Txn}
 use Rattle.base.specs.declared.Sizes.{Sizes}
 use Rattle.rules.specs.declared.State.{State}
 use Rattle.rules.specs.Message.{ackld, commitld, propose, ack, commit}
-use Rattle.rules.specs.Tree.{Tree, refused, run, gate, toAll, only}
+use Rattle.rules.specs.Tree.{run, toAll, only}
 use Rattle.rules.specs.Step.{holders, advance, advanced, l3Sync, l4Advance, onAckld, onAck, onSubmit, receive}
 use Rattle.rules.specs.Words.{serverOf, txns, has, num}
 use Rattle.rules.proofs.Words.{length-txns, get-set}
 use Rattle.plan.specs.declared.Cast.{Cast}
 use Rattle.plan.specs.declared.Plan.{Plan}
-use Rattle.plan.specs.Plans.{pl, after, noTxn, noCast, allCast, soloCast, planOf, quietOf, refusalOf, fine, decode, castOf, histFrom, candFrom, Sized, From, Plans}
-use Rattle.plan.proofs.Laws.{turned-away, at-gate, past-gate, kept-quiet, answered, answered₂, solo-cast, cast-none}
+use Rattle.plan.specs.Plans.{pl, noTxn, noCast, allCast, soloCast, planOf, quietOf, refusalOf, fine, decode, castOf, histFrom, candFrom, Sized, From, Plans}
+use Rattle.plan.proofs.Laws.{turned-away, at-gate, past-gate, kept-quiet, answered, answered₂, solo-cast, cast-none, refused-past, Gate}
 use Rattle.deliver.specs.Delivers.{raisedOf, syncedOf, deliveredOf, reach, commitsOf, committedOf, welcomedOf}
 
 -- ---- who holds c
@@ -89,13 +89,6 @@ module _ (to : List Bool) (old p d : ℕ) where
       go false = cast-none n me hs y
 
 -- ---- past the gate
-
-abbrev pub Gate : ℕ → State → Bool → ℕ → Type 0
-Gate kind s who why = (t : Tree) → run (gate kind (s .stage) who t) ≡ after why (run t)
-
-refused-past : (z : Sizes) (s : State) (r : Plan) (h k m : List ℕ) (kind : ℕ) (who : Bool) (why code : ℕ) (t : Tree) → Gate kind s who why → why ≡ 0 → r ≡ refusalOf s code → (code ≡ 0 → ⊥) → run t ≡ refused code
-    → Plans z s r h k m (run (gate kind (s .stage) who t))
-refused-past z s r h k m kind who why code t g y e n q = past-gate z s r h k m _ why (run t) (g t) y (turned-away z s r h k m (run t) s code e n q)
 
 -- ---- ACK-LD in L3
 

@@ -1,43 +1,36 @@
 -- One law for each return.
-use Prim.Native.Nat.{ℕ, zero, suc, _+_, _-_, _*_, _/_, _%_, _≤_, _<_, max}
-use mathlib.Core.Path.{_≡_, refl, sym, ap, _∙_}
-use mathlib.Core.Logic.{_≢_, _⊎_, inl, inr, ⊎-elim}
-use mathlib.Core.Bool.{Bool, true, false, not}
+use Prim.Native.Nat.{ℕ, _+_, _-_, _/_, _%_, _≤_, _<_, max}
+use mathlib.Core.Path.{_≡_, refl, sym, _∙_}
+use mathlib.Core.Bool.{Bool, true, false}
 use mathlib.Core.List.{List, [], _∷_, _++_}
 use native.Mathlib.Omega.{arith}
-use lib.Dec.{eqb, leb, ltb}
-use lib.ListN.{length, take, getD, set, replicate}
+use lib.Dec.{eqb}
+use lib.ListN.{set, replicate}
 use borrow.Author.Tests.{eq-eqb, ne-eqb, le-leb, lt-leb, lt-ltb, le-ltb, eqb-true, eqb-false}
-use Rattle.base.specs.Choice.{both, either, pick, upd}
-use Rattle.base.specs.Quorum.{Set, nobody}
-use Rattle.base.specs.Transaction.{Hist, ident, lastId, nextCounter, sameHist}
+use Rattle.base.specs.Choice.{both, either, pick}
+use Rattle.base.specs.Transaction.{ident, lastId, nextCounter, sameHist}
 use Rattle.base.specs.declared.Epoch.{Epoch}
 use Rattle.base.specs.declared.Place.{Place}
 use Rattle.base.specs.declared.Txn.{Txn}
 use Rattle.base.specs.declared.Sizes.{Sizes}
-use Rattle.base.proofs.Choice.{case, clash, tests}
+use Rattle.base.proofs.Choice.{case}
 use Rattle.rules.specs.declared.State.{State}
-use Rattle.rules.specs.Message.{Msg, cepoch, newepoch, acke, newleader, ackld, commitld, propose, ack, commit, Send}
-use Rattle.rules.specs.Server.{nil, idle}
-use Rattle.rules.specs.Tree.{Tree, Res, refused, taken, run, gate, toAll, only}
-use Rattle.rules.specs.Step.{mine, keeps, onOracle, onRestart, onNewepoch, onNewleader, onPropose, onCommit, receive}
-use Rattle.rules.specs.Words.{serverOf, serverWith, txns, has, num}
-use Rattle.rules.proofs.Words.{length-txns, take-txns, get-set}
+use Rattle.rules.specs.Message.{cepoch, newepoch, acke, newleader, ackld, commitld, propose, ack, commit, Send}
+use Rattle.rules.specs.Server.{nil}
+use Rattle.rules.specs.Tree.{Res, taken, run, only}
+use Rattle.rules.specs.Step.{keeps, onOracle, onRestart, onNewepoch, onNewleader, onPropose, onCommit, receive}
+use Rattle.rules.specs.Words.{serverOf, serverWith, txns, num}
+use Rattle.rules.proofs.Words.{length-txns, take-txns, get-set, zero-at}
 use Rattle.plan.specs.declared.Cast.{Cast}
 use Rattle.plan.specs.declared.Plan.{Plan}
-use Rattle.plan.specs.Plans.{ep, pl, after, nowhere, noTxn, noCast, allCast, soloCast, planOf, quietOf, refusalOf, fine, decode, castOf, histFrom, candFrom, Sized, From, Plans}
-use Rattle.plan.proofs.Laws.{turned-away, at-gate, past-gate, kept-quiet, answered, solo-cast, no-cast, cast-none, none-has}
+use Rattle.plan.specs.Plans.{ep, pl, after, nowhere, noTxn, noCast, soloCast, planOf, quietOf, refusalOf, fine, decode, castOf, histFrom, candFrom, Sized, From, Plans}
+use Rattle.plan.proofs.Laws.{turned-away, at-gate, past-gate, kept-quiet, answered, solo-cast, cast-none, none-has, refused-past, Gate}
 use Rattle.follow.specs.Anew.{clearedOf}
 
 -- ---- oracle, restart
 
-nil-has : (n i : ℕ) → _≡_ {A = ℕ} (getD (replicate n 0) i 0) 0
-nil-has zero i = refl
-nil-has (suc n) zero = refl
-nil-has (suc n) (suc i) = nil-has n i
-
 counts-nil : _≡_ {A = ℕ → ℕ} (num (replicate 7 0)) nil
-counts-nil = λ j i. nil-has 7 i j
+counts-nil = λ j i. zero-at 7 i j
 
 module _ (z : Sizes) (s : State) (r : Plan) (h k m : List ℕ) (w : Sized z s) where
   -- the cleared record stands for the cleared server
@@ -88,13 +81,6 @@ module _ (z : Sizes) (s : State) (r : Plan) (h k m : List ℕ) (w : Sized z s) w
       (rw (lt-ltb x (z .n) l, eq-eqb x (s .me) y, y, get-set nowhere false (s .me) true (omega (arith, w .me, w .most)), none-has, counts-nil) refl)
 
 -- ---- past the gate
-
-abbrev pub Gate : ℕ → State → Bool → ℕ → Type 0
-Gate kind s who why = (t : Tree) → run (gate kind (s .stage) who t) ≡ after why (run t)
-
-refused-past : (z : Sizes) (s : State) (r : Plan) (h k m : List ℕ) (kind : ℕ) (who : Bool) (why code : ℕ) (t : Tree) → Gate kind s who why → why ≡ 0 → r ≡ refusalOf s code → (code ≡ 0 → ⊥) → run t ≡ refused code
-    → Plans z s r h k m (run (gate kind (s .stage) who t))
-refused-past z s r h k m kind who why code t g y e n q = past-gate z s r h k m _ why (run t) (g t) y (turned-away z s r h k m (run t) s code e n q)
 
 -- ---- COMMIT-LD, COMMIT
 

@@ -1,35 +1,30 @@
 -- One law for each return.
-use Prim.Native.Nat.{ℕ, zero, suc, _+_, _-_, _*_, _≤_, _<_, max}
+use Prim.Native.Nat.{ℕ, _+_, _-_, _*_, _≤_, _<_, max}
 use mathlib.Core.Path.{_≡_, refl, sym, ap, _∙_}
-use mathlib.Core.Logic.{_≢_}
-use mathlib.Core.Bool.{Bool, true, false, not}
-use mathlib.Core.List.{List, [], _∷_, _++_}
+use mathlib.Core.Bool.{Bool, true, false}
+use mathlib.Core.List.{List, []}
 use native.Mathlib.Omega.{arith}
-use lib.Dec.{eqb, leb, ltb}
+use lib.Dec.{eqb}
 use lib.ListN.{length, take, set}
 use lib.Seq.{length-take-le, take-take}
-use borrow.Author.Tests.{eq-eqb, ne-eqb, le-leb, lt-leb, lt-ltb, le-ltb}
+use borrow.Author.Tests.{eq-eqb, ne-eqb, le-leb, lt-leb, lt-ltb}
 use Rattle.base.specs.Choice.{both, either, pick, upd}
-use Rattle.base.specs.Quorum.{Set, nobody, just, quorum}
-use Rattle.base.specs.Transaction.{Hist, lastId, sameHist}
+use Rattle.base.specs.Quorum.{quorum}
+use Rattle.base.specs.Transaction.{lastId, sameHist}
 use Rattle.base.specs.declared.Epoch.{Epoch}
-use Rattle.base.specs.declared.Place.{Place}
 use Rattle.base.specs.declared.Txn.{Txn}
 use Rattle.base.specs.declared.Sizes.{Sizes}
 use Rattle.rules.specs.declared.State.{State}
-use Rattle.rules.specs.Message.{Msg, cepoch, newepoch, acke, newleader, Send}
-use Rattle.rules.specs.Tree.{Tree, fork, Res, refused, taken, run, gate, toAll, only}
+use Rattle.rules.specs.Message.{cepoch, newepoch, acke, newleader}
+use Rattle.rules.specs.Tree.{Tree, fork, Res, run, toAll, only}
 use Rattle.rules.specs.Step.{keeps, l1Join, l2Join, l34Join, onCepoch, l2Count, onAcke, beats, receive}
-use Rattle.rules.specs.Words.{serverOf, serverWith, txns, has, num}
+use Rattle.rules.specs.Words.{serverOf, txns, has}
 use Rattle.rules.proofs.Words.{length-txns, take-txns, txns-same, get-set}
 use Rattle.plan.specs.declared.Cast.{Cast}
 use Rattle.plan.specs.declared.Plan.{Plan}
-use Rattle.plan.specs.Plans.{ep, pl, after, nowhere, noTxn, noCast, allCast, soloCast, planOf, quietOf, refusalOf, fine, decode, castOf, histFrom, candFrom, Sized, From, Fit, Plans}
-use Rattle.plan.proofs.Laws.{turned-away, at-gate, past-gate, kept-quiet, answered, answered₂, solo-cast, cast-none, none-has, just-has}
+use Rattle.plan.specs.Plans.{ep, pl, noTxn, noCast, allCast, soloCast, planOf, quietOf, refusalOf, fine, decode, castOf, histFrom, candFrom, Sized, From, Plans}
+use Rattle.plan.proofs.Laws.{turned-away, at-gate, past-gate, kept-quiet, answered, answered₂, solo-cast, cast-none, none-has, just-has, Gate}
 use Rattle.lead.specs.States.{electedOf, joinedOf, rejoinedOf, countedOf, chosenOf}
-
-abbrev pub Gate : ℕ → State → Bool → ℕ → Type 0
-Gate kind s who why = (t : Tree) → run (gate kind (s .stage) who t) ≡ after why (run t)
 
 -- ---- CEPOCH
 

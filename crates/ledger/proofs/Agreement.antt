@@ -6,10 +6,10 @@ use mathlib.Core.List.{List}
 use native.Mathlib.Omega.{arith}
 use lib.ListN.{length, take}
 use lib.Seq.{take-take, length-take-le}
-use Rattle.base.specs.Transaction.{Hist}
+use Rattle.base.specs.Transaction.{Hist, Begins}
 use Rattle.base.specs.declared.Sizes.{Sizes}
 use Rattle.base.proofs.Choice.{le-or-lt}
-use Rattle.base.proofs.History.{Pre, agree-low}
+use Rattle.base.proofs.History.{agree-low}
 use Rattle.rules.specs.Cluster.{Cluster, start, Event, play}
 use Rattle.ledger.specs.Delivered.{deliveredOf}
 use Rattle.ledger.proofs.Ghost.{Ghost, Good}
@@ -36,12 +36,12 @@ deliv-fit n g G x y ax ay (suc a) (suc b) u v =
     fit-both x y (g .log (s .0)) (g .log (t .0)) (suc a) (suc b) (s .3) (t .3) (committed-fit n g G (s .0) (t .0) (suc a) (suc b) (s .2) (t .2))
 
 -- the first i of x begin the first j of y
-pub fit-pre : (x y : Hist) (i j : ℕ) → i ≤ length x → i ≤ j → take i x ≡ take i y → Pre (take i x) (take j y)
+pub fit-pre : (x y : Hist) (i j : ℕ) → i ≤ length x → i ≤ j → take i x ≡ take i y → Begins (take i x) (take j y)
 fit-pre x y i j l k q = ap (λ (m : ℕ). take m (take j y)) (length-take-le i x l) ∙ take-take i j y k ∙ sym q
 
 -- of any cluster that keeps the invariant
 pub inv-agreement : (n : ℕ) (c : Cluster) → Inv n c → (i j : ℕ)
-    → Pre (deliveredOf (c .srv i)) (deliveredOf (c .srv j)) ⊎ Pre (deliveredOf (c .srv j)) (deliveredOf (c .srv i))
+    → Begins (deliveredOf (c .srv i)) (deliveredOf (c .srv j)) ⊎ Begins (deliveredOf (c .srv j)) (deliveredOf (c .srv i))
 inv-agreement n c I i j =
     let u = I .srv i .dur .del in
     let v = I .srv j .dur .del in
@@ -53,5 +53,5 @@ inv-agreement n c I i j =
 
 -- AGREEMENT. After any events, from fresh servers, of the delivered sequences of any two servers one begins the other.
 pub agreement : (z : Sizes) (depth : ℕ) (es : List Event) (i j : ℕ) → let c = play z depth start es in
-    Pre (deliveredOf (c .srv i)) (deliveredOf (c .srv j)) ⊎ Pre (deliveredOf (c .srv j)) (deliveredOf (c .srv i))
+    Begins (deliveredOf (c .srv i)) (deliveredOf (c .srv j)) ⊎ Begins (deliveredOf (c .srv j)) (deliveredOf (c .srv i))
 agreement z depth es i j = inv-agreement (z .n) (play z depth start es) (runs-ok z depth es) i j

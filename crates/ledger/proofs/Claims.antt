@@ -5,8 +5,8 @@ use mathlib.Core.Logic.{_≢_}
 use mathlib.Core.Bool.{true}
 use native.Mathlib.Omega.{arith}
 use lib.ListN.{length, take, getD}
-use Rattle.base.specs.Transaction.{Hist, none}
-use Rattle.base.proofs.History.{Pre, pre-len}
+use Rattle.base.specs.Transaction.{Hist, none, Begins}
+use Rattle.base.proofs.History.{pre-len}
 use Rattle.rules.specs.Message.{Msg, cepoch, newepoch, acke, newleader, ackld, commitld, propose, ack, commit, junk}
 use Rattle.rules.specs.Server.{Dur, Vol, Server, F3, F4, L1, L2, L3, L4}
 use Rattle.ledger.proofs.Ghost.{Ghost, Good, Grow, Only, Report, Committed}
@@ -20,7 +20,7 @@ abbrev pub MsgOk : ℕ → Ghost → ℕ → ℕ → Msg → Type 0
 MsgOk n g f t (cepoch e) = Unit {0}
 MsgOk n g f t (newepoch e) = Unit {0}
 MsgOk n g f t (acke e a h) = (g .vote e f ≡ suc t) × Report g e f a h
-MsgOk n g f t (newleader e h) = (0 < g .owner e) × (g .base e ≤ length h) × Pre h (g .log e)
+MsgOk n g f t (newleader e h) = (0 < g .owner e) × (g .base e ≤ length h) × Begins h (g .log e)
 MsgOk n g f t (ackld e c) = c < g .ackd e f
 MsgOk n g f t (commitld e c) = Committed n g e c
 MsgOk n g f t (propose e k x) = (0 < g .owner e) × ((j : ℕ) → k ≡ suc j → (j < length (g .log e)) × (getD (g .log e) j none ≡ x))
@@ -64,7 +64,7 @@ pub record Deliv (n : ℕ) (g : Ghost) (a d : ℕ) (h : Hist) : Type 0 where
 -- the durable part of server i
 pub record DurOk (n : ℕ) (g : Ghost) (i : ℕ) (u : Dur) : Type 0 where
   pub prom : g .prom i ≡ u .p
-  pub part : Pre (u .hist) (g .log (u .a))
+  pub part : Begins (u .hist) (g .log (u .a))
   pub held : g .ackd (u .a) i ≡ suc (length (u .hist))
   pub none : (e : ℕ) → u .a < e → g .ackd e i ≡ 0
   pub del : Deliv n g (u .a) (u .d) (u .hist)
@@ -117,7 +117,7 @@ pub record SrvOk (n : ℕ) (g : Ghost) (i : ℕ) (s : Server) : Type 0 where
 
 module _ (n : ℕ) (g g′ : Ghost) (G : Good n g) (W : Grow g g′) where
   -- what begins an owned log begins it still
-  pub pre-up : (e : ℕ) (h : Hist) → 0 < g .owner e → Pre h (g .log e) → Pre h (g′ .log e)
+  pub pre-up : (e : ℕ) (h : Hist) → 0 < g .owner e → Begins h (g .log e) → Begins h (g′ .log e)
   pre-up e h o p = sym (log-up n g g′ G W e (length h) o (pre-len h (g .log e) p)) ∙ p
 
   -- a report is of epochs that its server has left: frozen

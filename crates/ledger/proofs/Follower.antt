@@ -6,11 +6,11 @@ use mathlib.Core.List.{List, [], _∷_, _++_}
 use native.Mathlib.Omega.{arith}
 use lib.ListN.{length}
 use lib.Seq.{take-append-le}
-use Rattle.base.specs.Transaction.{Hist, none}
+use Rattle.base.specs.Transaction.{Hist, none, Begins}
 use Rattle.base.specs.declared.Txn.{Txn}
 use Rattle.base.specs.declared.Sizes.{Sizes}
 use Rattle.base.proofs.Choice.{tests, by-contra, upd-same, upd₂-at, upd₂-same}
-use Rattle.base.proofs.History.{Pre, pre-len, pre-take, pre-snoc, length-snoc, same-hist}
+use Rattle.base.proofs.History.{pre-len, pre-take, pre-snoc, length-snoc, same-hist}
 use Rattle.rules.specs.Message.{newleader, propose, Send}
 use Rattle.rules.specs.Server.{Dur, Server, F1, F2, F3, F4, L4}
 use Rattle.rules.specs.Step.{promised, keeps, onNewepoch, onNewleader, onPropose, onCommit}
@@ -25,7 +25,7 @@ pub record Holds (n : ℕ) (g : Ghost) (i p d : ℕ) (h : Hist) : Type 0 where
   pub prom : g .prom i ≡ p
   pub owned : 0 < g .owner p
   pub above : g .base p ≤ length h
-  pub part : Pre h (g .log p)
+  pub part : Begins h (g .log p)
   pub up : g .ackd p i ≤ suc (length h)
   pub del : Deliv n g p d h
 
@@ -132,7 +132,7 @@ module _ (n : ℕ) (g : Ghost) (G : Good n g) (i : ℕ) (s : Server) (S : SrvOk 
   propose-ok z f e k t st m ep ga _ _ =
       let ae : s .dur .a ≡ s .dur .p = S .f34 (st .0) (st .1) in
       let q : e ≡ s .dur .p = omega tests in
-      let part : Pre (s .dur .hist) (g .log (s .dur .p)) = rw ae at (S .dur .part) in
+      let part : Begins (s .dur .hist) (g .log (s .dur .p)) = rw ae at (S .dur .part) in
       let held : g .ackd (s .dur .p) i ≡ suc (length (s .dur .hist)) = rw ae at (S .dur .held) in
       let y = rw q at (m .1 (length (s .dur .hist)) (omega tests)) in
       let ln : length (s .dur .hist ++ (t ∷ [])) ≡ suc (length (s .dur .hist)) = length-snoc (s .dur .hist) t in

@@ -4,8 +4,8 @@ use mathlib.Core.Path.{_≡_}
 use mathlib.Core.Logic.{_≢_}
 use mathlib.Core.List.{[]}
 use lib.ListN.{length, take, drop}
-use Rattle.base.specs.Transaction.{Hist, ident, epochOf, idAt}
-use Rattle.base.proofs.History.{Pre, Rising}
+use Rattle.base.specs.Transaction.{Hist, ident, epochOf, idAt, Begins}
+use Rattle.base.proofs.History.{Rising}
 use Rattle.base.proofs.Quorum.{Most}
 
 -- Epoch 0 counts as owned, with an empty log of which everybody holds all: log 0 = [], ackd 0 s = 1.
@@ -75,7 +75,7 @@ pub record Grow (g g′ : Ghost) : Type 0 where
   pub vote : (e s : ℕ) → 0 < g .vote e s → g′ .vote e s ≡ g .vote e s
   pub owner : (e : ℕ) → 0 < g .owner e → g′ .owner e ≡ g .owner e
   pub base : (e : ℕ) → 0 < g .owner e → g′ .base e ≡ g .base e
-  pub log : (e : ℕ) → 0 < g .owner e → Pre (g .log e) (g′ .log e)
+  pub log : (e : ℕ) → 0 < g .owner e → Begins (g .log e) (g′ .log e)
   pub ackd : (e s : ℕ) → g .ackd e s ≤ g′ .ackd e s
   pub frozen : (e s : ℕ) → e < g .prom s → g′ .ackd e s ≡ g .ackd e s
 
@@ -91,6 +91,6 @@ pub record Only (i : ℕ) (g g′ : Ghost) : Type 0 where
 pub record Report (g : Ghost) (e s a : ℕ) (h : Hist) : Type 0 where
   pub old : a < e
   pub promised : e ≤ g .prom s
-  pub part : Pre h (g .log a)
+  pub part : Begins h (g .log a)
   pub held : g .ackd a s ≡ suc (length h)
   pub none : (e₀ : ℕ) → a < e₀ → e₀ < e → g .ackd e₀ s ≡ 0

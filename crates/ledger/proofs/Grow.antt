@@ -7,11 +7,11 @@ use mathlib.Core.List.{[], _∷_, _++_}
 use lib.ListN.{length, take, drop, getD, length-append}
 use lib.Seq.{getD-take, take-append-seam, take-append-le, drop-append-le, drop-length, drop-nil}
 use Rattle.base.specs.Choice.{upd, upd₂}
-use Rattle.base.specs.Transaction.{Hist, none, ident, epochOf, idAt, lastId}
+use Rattle.base.specs.Transaction.{Hist, none, ident, epochOf, idAt, lastId, Begins}
 use Rattle.base.specs.declared.Txn.{Txn}
 use Rattle.base.proofs.Choice.{by-contra, le-or-lt, eq-or, upd-at, upd-same, upd-other, upd₂-at, upd₂-other}
 use Rattle.base.proofs.Quorum.{Most, most-map, most-meet}
-use Rattle.base.proofs.History.{Pre, Rising, pre-len, pre-refl, pre-trans, pre-take, rising-snoc, ids-snoc, id-agree, id-old, id-new}
+use Rattle.base.proofs.History.{Rising, pre-len, pre-refl, pre-trans, pre-take, rising-snoc, ids-snoc, id-agree, id-old, id-new}
 use Rattle.ledger.proofs.Ghost.{Ghost, Good, Grow, Only, Origin, May, Committed, own}
 use Rattle.ledger.proofs.Candidate.{committed-in}
 
@@ -243,7 +243,7 @@ module _ (n : ℕ) (g : Ghost) (G : Good n g) (e : ℕ) (t : Txn) (A : Extendabl
     vote = λ _ _ _. refl;
     owner = λ _ _. refl;
     base = λ _ _. refl;
-    log = λ e₀ _. upd-at (λ (v : Hist). Pre (g .log e₀) v) (g .log) e (g .log e ++ (t ∷ [])) e₀
+    log = λ e₀ _. upd-at (λ (v : Hist). Begins (g .log e₀) v) (g .log) e (g .log e ++ (t ∷ [])) e₀
         (λ q. rw q (take-append-seam (g .log e) (t ∷ []))) (λ _. pre-refl (g .log e₀));
     ackd = λ e₀ s. omega arith;
     frozen = λ _ _ _. refl;

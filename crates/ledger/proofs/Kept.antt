@@ -1,9 +1,9 @@
 -- Nothing delivered is lost.
+use Rattle.base.specs.Transaction.{Begins}
 use Prim.Native.Nat.{ℕ}
 use mathlib.Core.Path.{_≡_, refl}
 use mathlib.Core.List.{List, [], _∷_, _++_}
 use Rattle.base.specs.declared.Sizes.{Sizes}
-use Rattle.base.proofs.History.{Pre}
 use Rattle.rules.specs.Cluster.{Cluster, start, Event, event, after, play}
 use Rattle.ledger.specs.Delivered.{deliveredOf}
 use Rattle.ledger.proofs.Claims.{deliv-up}
@@ -17,7 +17,7 @@ play-append z depth c [] fs = refl
 play-append z depth c (e ∷ es) fs = play-append z depth (after (event z depth c e)) es fs
 
 -- what was delivered is committed still, and so fits what is delivered now
-pub later-kept : (n : ℕ) (c c′ : Cluster) (I : Inv n c) → Later n c I c′ → (i : ℕ) → Pre (deliveredOf (c .srv i)) (deliveredOf (c′ .srv i))
+pub later-kept : (n : ℕ) (c c′ : Cluster) (I : Inv n c) → Later n c I c′ → (i : ℕ) → Begins (deliveredOf (c .srv i)) (deliveredOf (c′ .srv i))
 later-kept n c c′ I L i =
     let s = c .srv i .dur in
     let s′ = c′ .srv i .dur in
@@ -28,7 +28,7 @@ later-kept n c c′ I L i =
 
 -- KEPT. What a server has delivered after some events begins what it has delivered after any further ones.
 pub kept : (z : Sizes) (depth : ℕ) (es fs : List Event) (i : ℕ)
-    → Pre (deliveredOf (play z depth start es .srv i)) (deliveredOf (play z depth start (es ++ fs) .srv i))
+    → Begins (deliveredOf (play z depth start es .srv i)) (deliveredOf (play z depth start (es ++ fs) .srv i))
 kept z depth es fs i =
     let c = play z depth start es in
     let I = runs-ok z depth es in

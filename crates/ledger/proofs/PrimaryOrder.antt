@@ -8,12 +8,12 @@ use native.Mathlib.Omega.{arith}
 use lib.Dec.{eqb}
 use lib.ListN.{length, getD, length-take, length-append}
 use lib.Seq.{getD-take, getD-append-seam, getD-append-add}
-use Rattle.base.specs.Transaction.{Hist, none, ident, epochOf, idAt}
+use Rattle.base.specs.Transaction.{Hist, none, ident, epochOf, idAt, Begins}
 use Rattle.base.specs.Record.{Rec, E, B, «V», Entry, entry}
 use Rattle.base.specs.declared.Txn.{Txn}
 use Rattle.base.specs.declared.Sizes.{Sizes}
 use Rattle.base.proofs.Choice.{passes, by-contra, le-or-lt, eq-or, pick-true}
-use Rattle.base.proofs.History.{Pre, rising-pre, take-pre, pre-len}
+use Rattle.base.proofs.History.{rising-pre, take-pre, pre-len}
 use Rattle.rules.specs.Cluster.{Cluster, start, Event, play, trace}
 use Rattle.ledger.specs.Delivered.{deliveredOf}
 use Rattle.ledger.specs.Records.{isE, In, Before, gather, begunBy, begunIn}
@@ -49,19 +49,19 @@ one-place n c I i j k a b q = ⊎-elim
 
 -- ---- total order
 
-pre-at : (x y : Hist) (k : ℕ) → Pre x y → k < length x → getD x k none ≡ getD y k none
+pre-at : (x y : Hist) (k : ℕ) → Begins x y → k < length x → getD x k none ≡ getD y k none
 pre-at x y k p l = ap (λ (h : Hist). getD h k none) (sym p) ∙ getD-take (length x) y k none l
 
 module _ (n : ℕ) (c : Cluster) (I : Inv n c) (i i′ : ℕ) where
   inv-total : (j k k′ : ℕ) → j < k → k < length (deliveredOf (c .srv i)) → k′ < length (deliveredOf (c .srv i′)) → identAt (deliveredOf (c .srv i′)) k′ ≡ identAt (deliveredOf (c .srv i)) k
       → (k′ ≡ k) × (getD (deliveredOf (c .srv i′)) j none ≡ getD (deliveredOf (c .srv i)) j none)
   inv-total j k k′ l a b q = ⊎-elim
-      (λ (p : Pre (deliveredOf (c .srv i)) (deliveredOf (c .srv i′))).
+      (λ (p : Begins (deliveredOf (c .srv i)) (deliveredOf (c .srv i′))).
       let m = pre-len (deliveredOf (c .srv i)) (deliveredOf (c .srv i′)) p in (
         one-place n c I i′ k′ k b (omega arith) (q ∙ ap (λ (t : Txn). t .id .0) (pre-at (deliveredOf (c .srv i)) (deliveredOf (c .srv i′)) k p a)),
         sym (pre-at (deliveredOf (c .srv i)) (deliveredOf (c .srv i′)) j p (omega arith)),
       ))
-      (λ (p : Pre (deliveredOf (c .srv i′)) (deliveredOf (c .srv i))).
+      (λ (p : Begins (deliveredOf (c .srv i′)) (deliveredOf (c .srv i))).
       let m = pre-len (deliveredOf (c .srv i′)) (deliveredOf (c .srv i)) p in
       let e : k′ ≡ k = one-place n c I i k′ k (omega arith) a (sym (ap (λ (t : Txn). t .id .0) (pre-at (deliveredOf (c .srv i′)) (deliveredOf (c .srv i)) k′ p b)) ∙ q) in
       (e, pre-at (deliveredOf (c .srv i′)) (deliveredOf (c .srv i)) j p (omega arith)))

@@ -9,12 +9,11 @@ use lib.Dec.{eqb}
 use lib.ListN.{length, take, drop, getD, take-append-drop, length-drop, length-map, List·getD-map, List·getD-append}
 use lib.Seq.{drop-append-seam, getD-drop, getD-take, length-take-le}
 use Rattle.base.specs.Choice.{pick, both}
-use Rattle.base.specs.Transaction.{Hist, none}
+use Rattle.base.specs.Transaction.{Hist, none, Begins}
 use Rattle.base.specs.Record.{Rec, E, B, «V», X, Entry, entry}
 use Rattle.base.specs.declared.Txn.{Txn}
 use Rattle.base.specs.declared.Sizes.{Sizes}
 use Rattle.base.proofs.Choice.{tests, passes, case, eq-or, both-yes, both-no, is-not, pick-at, pick-true, pick-false, upd-same, upd-other}
-use Rattle.base.proofs.History.{Pre}
 use Rattle.rules.specs.Server.{Server, L4}
 use Rattle.rules.specs.Cluster.{Cluster, start, Event, Outcome, told, done, event, after, enters, begun, newly, records, play, trace}
 use Rattle.ledger.specs.Delivered.{deliveredOf}
@@ -136,7 +135,7 @@ module _ (g g′ : Ghost) (tr : List Rec) (T : Traced g tr) (i : ℕ) (s s′ : 
       (tells-B g g′ tr i (d .t) (rw (d .epoch) (established-in g tr T (s .dur .p) i (d .done) (d .mine))) (rw (d .epoch) (full asked d)) (d .est) (rw (d .epoch) (d .here)) (rw (d .epoch) (d .others)))
 
 -- a sequence that begins another, and the rest of it
-pre-join : (x y : Hist) (d : ℕ) → length x ≡ d → Pre x y → x ++ drop d y ≡ y
+pre-join : (x y : Hist) (d : ℕ) → length x ≡ d → Begins x y → x ++ drop d y ≡ y
 pre-join x y d q p = ap (λ (l : Hist). l ++ drop d y) (sym (rw q at p)) ∙ take-append-drop d y
 
 -- ---- an event
@@ -187,7 +186,7 @@ module _ (n : ℕ) (c : Cluster) (tr : List Rec) (u : Run n c tr) where
     traced-led = tells-on n (u .inv .g) (F .inv .g) (u .inv .good) (F .grow) tr (enters i s s′ ++ begun i asked s s′) (u .traced) (deed-tells (u .inv .g) (F .inv .g) tr (u .traced) i s s′ views₀ asked (F .deed))
 
     -- what was delivered begins what is
-    begins : Pre (deliveredOf s) (deliveredOf s′)
+    begins : Begins (deliveredOf s) (deliveredOf s′)
     unfolding after inv′
     begins = rw (← was, ← now) (later-kept n c c′ (u .inv) (record { inv = F .inv; grow = F .grow; more = F .more }) i)
 

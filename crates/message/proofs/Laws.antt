@@ -12,7 +12,7 @@ use borrow.Author.Tests.{leb-true, le-leb, lt-leb, lt-ltb, le-ltb, eq-eqb, ne-eq
 use Rattle.base.specs.Choice.{pick, both}
 use Rattle.base.specs.Transaction.{LAST, small, epochOf, counterOf, rising, goodHist}
 use Rattle.base.specs.declared.Sizes.{Sizes}
-use Rattle.base.proofs.Choice.{clash, both-true, both-no}
+use Rattle.base.proofs.Choice.{both-true, both-no, both-first}
 use Rattle.rules.specs.Message.{Msg, cepoch, newepoch, acke, newleader, ackld, commitld, propose, ack, commit, junk, positive, formed}
 use Rattle.rules.specs.Words.{txns, txnAt, word, allZero, tidy, said, readMsg, msgSize}
 use Rattle.rules.proofs.Formed.{positive-says}
@@ -171,12 +171,6 @@ module _ (z : Sizes) (w : List ℕ) where
     pub newleader-told : (b : Bool) → 1 ≤ e → e ≤ LAST → n ≤ z .room .0 → b ≡ rising e 0 (txns n w) → b ≡ true → Told z (newleader e (txns n w)) w (Newleader (ep e) (pl n))
     unfolding formed positive both meant held
     newleader-told b g h l q f = told (newleader e (txns n w)) (Newleader (ep e) (pl n)) (rw (le-leb 1 e g, le-leb e LAST h, good e n l, ← q, f)) refl l
-
-both-first : (a b c : Bool) → both a b ≡ false → both a (both b c) ≡ false
-unfolding both
-both-first true true c e = clash refl e
-both-first true false c e = refl
-both-first false b c e = refl
 
 range-is : (e x : ℕ) → both (positive e) (positive x) ≡ ranged e 1 x
 unfolding ranged positive

@@ -1,12 +1,11 @@
 -- One law for each way that a plan is returned.
-use Prim.Native.Nat.{ℕ, zero, suc, _+_, _-_, _*_, _≤_, _<_}
+use Prim.Native.Nat.{ℕ, zero, suc, _+_, _-_, _≤_, _<_}
 use mathlib.Core.Path.{_≡_, refl, sym, ap, _∙_}
 use mathlib.Core.Logic.{_≢_}
-use mathlib.Core.Bool.{Bool, true, false, not}
-use mathlib.Core.List.{List, [], _∷_, _++_, append-nil}
+use mathlib.Core.Bool.{Bool, true, false}
+use mathlib.Core.List.{List, [], _++_, append-nil}
 use native.Mathlib.Omega.{arith}
-use lib.Dec.{eqb, leb, ltb}
-use lib.ListN.{length, take, drop, getD, set, replicate, length-replicate}
+use lib.ListN.{getD, set, replicate}
 use borrow.Author.Tests.{eq-eqb, ne-eqb}
 use Rattle.base.specs.Choice.{both, either, pick, upd}
 use Rattle.base.specs.Quorum.{Set, nobody, just}
@@ -16,12 +15,12 @@ use Rattle.base.specs.declared.Sizes.{Sizes}
 use Rattle.base.proofs.Choice.{pick-true, pick-false}
 use Rattle.rules.specs.declared.State.{State}
 use Rattle.rules.specs.Message.{Msg, Send}
-use Rattle.rules.specs.Tree.{Tree, Res, refused, taken, run, toAll, only}
-use Rattle.rules.specs.Words.{serverWith, serverOf, txns, has, num}
-use Rattle.rules.proofs.Words.{all-none, all-just, length-txns, get-set}
+use Rattle.rules.specs.Tree.{Tree, Res, refused, taken, run, gate, toAll, only}
+use Rattle.rules.specs.Words.{serverWith, serverOf, txns, has}
+use Rattle.rules.proofs.Words.{all-none, all-just, get-set}
 use Rattle.plan.specs.declared.Cast.{Cast}
 use Rattle.plan.specs.declared.Plan.{Plan}
-use Rattle.plan.specs.Plans.{after, nowhere, noTxn, noCast, allCast, soloCast, planOf, quietOf, refusalOf, fine, decode, castOf, sends, histFrom, candFrom, histOf, candOf, meaning, Sized, From, Fit, Plans}
+use Rattle.plan.specs.Plans.{after, nowhere, noTxn, noCast, planOf, quietOf, refusalOf, fine, decode, castOf, sends, histFrom, candFrom, meaning, Plans}
 
 -- ---- gates
 
@@ -98,3 +97,13 @@ module _ (z : Sizes) (s : State) (r : Plan) (h k m : List ℕ) (x : Res) where
   unfolding histFrom candFrom pick fine both either
   kept-quiet t e a l v sm ls q = answered false t 0 0 noTxn noCast (txns (t .len .0) h) (txns (t .«cand_len» .0) k) [] e a l v (omega arith) (λ (w : _≡_ {A = ℕ} 0 3). absurd (omega arith)) (omega arith) (λ _. refl) (λ _. sm) (λ _. ls)
       refl refl refl (cast-none (z .n) (t .me) (txns (t .len .0) h) noTxn) q
+
+-- ---- a delivery past its gate
+
+-- what the gate answers, whatever comes after it
+abbrev pub Gate : ℕ → State → Bool → ℕ → Type 0
+Gate kind s who why = (t : Tree) → run (gate kind (s .stage) who t) ≡ after why (run t)
+
+pub refused-past : (z : Sizes) (s : State) (r : Plan) (h k m : List ℕ) (kind : ℕ) (who : Bool) (why code : ℕ) (t : Tree) → Gate kind s who why → why ≡ 0 → r ≡ refusalOf s code → (code ≡ 0 → ⊥) → run t ≡ refused code
+    → Plans z s r h k m (run (gate kind (s .stage) who t))
+refused-past z s r h k m kind who why code t g y e n q = past-gate z s r h k m _ why (run t) (g t) y (turned-away z s r h k m (run t) s code e n q)

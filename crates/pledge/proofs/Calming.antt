@@ -1,4 +1,6 @@
 -- The calm run of the code: naming, settling, a submission and settling again, one after the other.
+use Rattle.rules.proofs.WellFormed.{sized}
+use Rattle.turn.proofs.Outcomes.{outcome-done, outcome-after}
 use Prim.Native.Nat.{ℕ, _≤_}
 use mathlib.Core.Path.{_≡_, refl, sym, ap, _∙_, subst}
 use mathlib.Core.Bool.{Bool, true, false}
@@ -10,17 +12,15 @@ use Rattle.base.specs.Refusals.{STATE}
 use Rattle.base.specs.declared.Sizes.{Sizes}
 use Rattle.base.proofs.Choice.{clash, both-true}
 use Rattle.rules.specs.Server.{goodSizes}
-use Rattle.rules.specs.Cluster.{Cluster as Servers, Event, S, event, after, play}
-use Rattle.calm.specs.Calm.{isDone}
-use Rattle.cluster.specs.Site.{Site, siteOf, clusterOf, goodSite}
-use Rattle.cluster.specs.Events.{meant, eventOf, wholeEvent, outcomeOf}
+use Rattle.rules.specs.Cluster.{Cluster as Servers, Event, S, event, after, play, isDone}
+use Rattle.site.specs.Site.{Site, siteOf, clusterOf, goodSite}
+use Rattle.turn.specs.Events.{meant, eventOf, wholeEvent, outcomeOf}
 use Rattle.cluster.specs.Runs.{eventsOf, played, tally, goodRun, Happens, Runs}
-use Rattle.cluster.specs.declared.Cluster.{Cluster}
-use Rattle.cluster.specs.declared.Told.{Told}
+use Rattle.site.specs.declared.Cluster.{Cluster}
+use Rattle.site.specs.declared.Told.{Told}
 use Rattle.cluster.specs.declared.Ran.{Ran}
-use Rattle.cluster.specs.declared.Happening.the-variants as happens
-use Rattle.cluster.proofs.Goods.{sizes-facts, fit-facts}
-use Rattle.cluster.proofs.Series.{outcome-done, outcome-after}
+use Rattle.turn.specs.declared.Happening.the-variants as happens
+use Rattle.site.proofs.Goods.{fit-facts}
 use Rattle.pledge.specs.Moves.{names, nameWords, settling, renamed, regained, submission, finished, settles, turned, rested, begun, ended, Moves, Calms}
 use Rattle.pledge.specs.declared.Calmed.{Calmed}
 use Rattle.pledge.proofs.Named.{names-are}
@@ -109,8 +109,8 @@ naming-went c x ws h k q o t h′ k′ q′ o′ p r =
     let g = went c _ _ h k q o t h′ k′ q′ o′ s in
     record {
       yes = λ e.
-          let f = sizes-facts z (facts z (c .depth) w e .0) .0 in
-          subst (λ (es : List Event). Gone z (c .depth) w es (t .taken) w′) (names-are z x (f .0) (f .1)) (g .0 (rw e));
+          let f = sized z (facts z (c .depth) w e .0) in
+          subst (λ (es : List Event). Gone z (c .depth) w es (t .taken) w′) (names-are z x (f .three) (f .seven)) (g .0 (rw e));
       not = λ e. g .1 (rw e);
     }
 

@@ -1,4 +1,5 @@
 -- The calm run of fresh servers: nothing was submitted before, so x has room, and both of its numbers of deliveries are known.
+use Rattle.rules.proofs.WellFormed.{sized}
 use Prim.Native.Nat.{ℕ, suc, _-_, _≤_, _<_}
 use mathlib.Core.Path.{_≡_, refl, sym, ap, _∙_, subst}
 use mathlib.Core.Logic.{⊎-elim}
@@ -11,11 +12,11 @@ use lib.Seq.{length-take-le}
 use borrow.Author.Tests.{lt-ltb}
 use Rattle.base.specs.Choice.{pick, both}
 use Rattle.base.specs.Transaction.{Hist, lastId, idAt, none}
-use Rattle.base.specs.Record.{E, B, «V», Entry, entry}
+use Rattle.base.specs.Record.{E, «V», Entry, entry}
 use Rattle.base.specs.declared.Txn.{Txn}
 use Rattle.base.specs.declared.Sizes.{Sizes}
 use Rattle.base.proofs.Choice.{le-or-lt, clash}
-use Rattle.rules.specs.Server.{Server, fresh, goodSizes, L4}
+use Rattle.rules.specs.Server.{Server, goodSizes, L4}
 use Rattle.rules.specs.Tree.{Res, refused, taken, run}
 use Rattle.rules.specs.Step.{Input, step}
 use Rattle.rules.specs.Cluster.{Cluster, Channels, Event, O, R, D, S, Outcome, told, done, answer, at, hand, start, event, after, play, enters, begun, newly, records, trace}
@@ -27,11 +28,11 @@ use Rattle.ledger.proofs.Lists.{count-append}
 use Rattle.ledger.proofs.Kept.{play-append}
 use Rattle.ledger.proofs.SubmittedOnce.{submitted-once}
 use Rattle.calm.specs.Calm.{below, naming, Lively, end, then}
-use Rattle.cluster.proofs.Goods.{sizes-facts, fit-facts}
-use Rattle.cluster.specs.Site.{Site, siteOf, clusterOf, goodSite}
+use Rattle.site.proofs.Goods.{fit-facts}
+use Rattle.site.specs.Site.{Site, siteOf, clusterOf, goodSite}
 use Rattle.cluster.specs.Runs.{goodFresh, Freshly}
-use Rattle.cluster.specs.declared.Cluster.{Cluster as Held}
-use Rattle.cluster.specs.declared.Told.{Told}
+use Rattle.site.specs.declared.Cluster.{Cluster as Held}
+use Rattle.site.specs.declared.Told.{Told}
 use Rattle.pledge.specs.Moves.{othersFrom, names, settles, turned, rested, regained, Leads, Roomy, Calms, Counted}
 use Rattle.pledge.specs.declared.Calmed.{Calmed}
 use Rattle.pledge.proofs.Settled.{eased-lively}
@@ -164,7 +165,7 @@ module _ (z : Sizes) (good : goodSizes z ≡ true) (depth : ℕ) (deep : 2 ≤ d
 
   fresh-roomy : Roomy z x (rested z depth x start)
   fresh-roomy = record {
-    room = omega (arith, no-history, sizes-facts z good .1 .0);
+    room = omega (arith, no-history, sized z good .some);
     next = λ e. omega (arith, e, no-id (rested z depth x start .srv x .dur .hist) no-history);
   }
 

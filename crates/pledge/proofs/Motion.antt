@@ -1,4 +1,5 @@
 -- The calm run of the rules, where settling makes its deliveries: how many there are, and what they leave.
+use Rattle.rules.proofs.WellFormed.{sized}
 use Prim.Native.Nat.{ℕ, _+_, _-_, _*_, _≤_, _<_}
 use mathlib.Core.Path.{_≡_, sym, _∙_, subst}
 use mathlib.Core.Logic.{⊎-elim}
@@ -10,11 +11,10 @@ use borrow.Author.Tests.{ltb-true}
 use Rattle.base.specs.declared.Sizes.{Sizes}
 use Rattle.base.proofs.Choice.{le-or-lt}
 use Rattle.rules.specs.Server.{goodSizes}
-use Rattle.rules.specs.Cluster.{Cluster, Event, S, start, event, play}
-use Rattle.calm.specs.Calm.{below, Others, isDone, Lively, Recovered, Established, Round, submitted-entry}
+use Rattle.rules.specs.Cluster.{Cluster, Event, S, start, event, play, isDone}
+use Rattle.calm.specs.Calm.{below, Others, Lively, Recovered, Established, Round, submitted-entry}
 use Rattle.calm.proofs.ItMoves as it
 use Rattle.cluster.specs.Runs.{tally}
-use Rattle.cluster.proofs.Goods.{sizes-facts}
 use Rattle.pledge.specs.Moves.{othersFrom, names, settles, turned, rested, begun, ended, Leads, Roomy}
 use Rattle.pledge.proofs.Settled.{eased-lively, eased-stops, eased-counts, all-counted}
 use Rattle.pledge.proofs.Named.{all-others, length-names}
@@ -59,7 +59,7 @@ module _ (z : Sizes) (good : goodSizes z ≡ true) (depth : ℕ) (deep : 2 ≤ d
   round = it.recovers z good depth deep before x (l .inside) (l .top) (l .low) (othersFrom x 0 (z .n - 1)) others (settles z depth (turned z depth x reached)) lively
 
   few : 6 * (z .n - 1) < 64
-  few = let s = sizes-facts z good .0 .1 in omega arith
+  few = let s = sized z good .seven in omega arith
 
   whole : length (settles z depth (turned z depth x reached)) ≡ 6 * (z .n - 1)
   whole = round-whole z depth reached (turned z depth x reached) (6 * (z .n - 1)) _ few round
@@ -80,7 +80,7 @@ module _ (z : Sizes) (good : goodSizes z ≡ true) (depth : ℕ) (deep : 2 ≤ d
 
   reached-moves : Motion z depth x v reached
   reached-moves = record {
-    named = all-counted z depth reached (names z x) (it.names-taken z good depth deep before x (l .inside) (l .top) (l .low) (othersFrom x 0 (z .n - 1)) others) ∙ length-names z x (let s = sizes-facts z good .0 .0 in omega arith);
+    named = all-counted z depth reached (names z x) (it.names-taken z good depth deep before x (l .inside) (l .top) (l .low) (othersFrom x 0 (z .n - 1)) others) ∙ length-names z x (let s = sized z good .three in omega arith);
     first = round-taken z depth reached (turned z depth x reached) (6 * (z .n - 1)) _ few round;
     recovered = round .ends whole;
     submitted = λ r. then r .0;

@@ -10,7 +10,7 @@ use lib.ListN.{length, getD, take, drop, take-append-drop}
 use borrow.Author.Tests.{lt-ltb}
 use Rattle.base.specs.Choice.{pick, both}
 use Rattle.base.specs.Refusals.{STATE}
-use Rattle.base.specs.Transaction.{Hist, none}
+use Rattle.base.specs.Transaction.{Hist, none, Begins}
 use Rattle.base.specs.Record.{entry}
 use Rattle.base.specs.declared.Sizes.{Sizes}
 use Rattle.rules.specs.Cluster.{Cluster as Servers, Event, start, play, trace}
@@ -21,12 +21,13 @@ use Rattle.ledger.proofs.Agreement.{agreement}
 use Rattle.ledger.proofs.Kept.{kept}
 use Rattle.ledger.proofs.SubmittedOnce.{submitted-once}
 use Rattle.ledger.proofs.OneLeader.{one-leader}
-use Rattle.cluster.specs.Site.{Site, siteOf, clusterOf, serverAt, goodSite}
+use Rattle.site.specs.Site.{Site, siteOf, clusterOf, serverAt, goodSite}
 use Rattle.cluster.specs.Runs.{goodFresh, freshOf, eventsOf, goodRun, Freshly, Runs}
-use Rattle.cluster.specs.declared.Cluster.{Cluster}
-use Rattle.cluster.specs.declared.Told.{Told}
+use Rattle.site.specs.declared.Cluster.{Cluster}
+use Rattle.site.specs.declared.Told.{Told}
 use Rattle.cluster.specs.declared.Ran.{Ran}
-use Rattle.pledge.specs.Ledger.{Begins, deliveredAt, OneLedger, fits, blank, Pledged}
+use Rattle.cluster.proofs.Begun.{freshSite}
+use Rattle.pledge.specs.Ledger.{deliveredAt, OneLedger, fits, blank, Pledged}
 
 -- what is read from the words is what the server that they stand for has delivered
 pub delivered-is : (z : Sizes) (depth : ℕ) (c : Cluster) (h k q o : List ℕ) (i : ℕ) → i < z .n
@@ -91,18 +92,15 @@ moved es budget o t h′ k′ q′ o′ c d h k q hs ks qs a b e f r =
     (subst (λ (y : List ℕ). Running es budget o t h′ k′ q′ o′ c h k y) f r)))
 
 -- a run from the fresh cluster, where everything fits
-abbrev zeroed : Sizes → ℕ → List ℕ → List ℕ → List ℕ → List ℕ → Site
-zeroed z depth h k q o = siteOf (freshOf z depth) (zeros (length h)) (zeros (length k)) (zeros (length q)) o
-
 fresh-run : (z : Sizes) (depth budget : ℕ) (es h k q o : List ℕ) (t : Ran) (h′ k′ q′ o′ : List ℕ) → goodFresh z depth h k q o ≡ true
-    → clusterOf z depth (zeroed z depth h k q o) ≡ start → goodSite z depth (zeroed z depth h k q o) ≡ true
+    → clusterOf z depth (freshSite z depth (length h) (length k) (length q) o) ≡ start → goodSite z depth (freshSite z depth (length h) (length k) (length q) o) ≡ true
     → Running es budget o t h′ k′ q′ o′ (freshOf z depth) (zeros (length h)) (zeros (length k)) (zeros (length q)) → Pledged z depth budget es h k q o t h′ k′ q′ o′
 unfolding fits blank goodRun both pick
 fresh-run z depth budget es h k q o t h′ k′ q′ o′ e s g r = go (eqb (length es % 3) 0) refl
   where
     go : (b : Bool) → eqb (length es % 3) 0 ≡ b → Pledged z depth budget es h k q o t h′ k′ q′ o′
     go true w =
-        let a : goodRun z depth (zeroed z depth h k q o) es ≡ true = rw (g, w) refl in
+        let a : goodRun z depth (freshSite z depth (length h) (length k) (length q) o) es ≡ true = rw (g, w) refl in
         let end : clusterOf z depth (siteOf (t .cluster) h′ k′ q′ o′) ≡ play z depth start (eventsOf z es budget) = r .rules a ∙ ap (λ (c : Servers). play z depth c (eventsOf z es budget)) s in
         record {
           code = rw (e, w) (r .code ∙ rw a);
@@ -116,7 +114,7 @@ fresh-run z depth budget es h k q o t h′ k′ q′ o′ e s g r = go (eqb (len
           ledger = λ _. one-ledger z depth (eventsOf z es budget) (t .cluster) h′ k′ q′ o′ end;
         }
     go false w =
-        let a : goodRun z depth (zeroed z depth h k q o) es ≡ false = rw (g, w) refl in
+        let a : goodRun z depth (freshSite z depth (length h) (length k) (length q) o) es ≡ false = rw (g, w) refl in
         let c : t .code ≡ STATE = r .code ∙ rw a in
         let n : t .code ≢ 0 = λ x. omega (arith, c, x) in
         record {
@@ -139,7 +137,7 @@ pledged-run z depth budget es h k q o f h₁ k₁ q₁ t h′ k′ q′ o′ y n
     go : (b : Bool) → goodFresh z depth h k q o ≡ b → f .code ≡ pick b 0 STATE → h₁ ≡ pick b (zeros (length h)) h → k₁ ≡ pick b (zeros (length k)) k → q₁ ≡ pick b (zeros (length q)) q
         → Pledged z depth budget es h k q o t h′ k′ q′ o′
     go true e c a b d =
-        let same : siteOf (f .cluster) h₁ k₁ q₁ o ≡ zeroed z depth h k q o = rw (y .cluster, a, b, d) refl in
+        let same : siteOf (f .cluster) h₁ k₁ q₁ o ≡ freshSite z depth (length h) (length k) (length q) o = rw (y .cluster, a, b, d) refl in
         fresh-run z depth budget es h k q o t h′ k′ q′ o′ e
         (ap (clusterOf z depth) (sym same) ∙ y .rules e)
         (ap (goodSite z depth) (sym same) ∙ y .good e)

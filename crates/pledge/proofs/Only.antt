@@ -1,9 +1,9 @@
 -- Two answers that meet a promise of these functions are equal, and so is every word.
 use Prim.Native.Nat.{ℕ}
-use mathlib.Core.Path.{_≡_, sym, ap, _∙_}
+use mathlib.Core.Path.{_≡_, sym, _∙_}
 use mathlib.Core.List.{List}
 use Rattle.base.specs.declared.Sizes.{Sizes}
-use Rattle.cluster.specs.Site.{Site, siteOf}
+use Rattle.site.specs.Site.{Site, siteOf}
 use Rattle.cluster.specs.declared.Ran.{Ran}
 use Rattle.cluster.proofs.Only.{same-cluster, same-words}
 use Rattle.pledge.specs.Ledger.{Pledged}

@@ -13,8 +13,8 @@ use Rattle.base.specs.Choice.{pick}
 use Rattle.base.specs.declared.Sizes.{Sizes}
 use Rattle.base.proofs.Choice.{both-true, le-or-lt}
 use Rattle.rules.specs.Message.{Msg}
-use Rattle.rules.specs.Cluster.{Cluster, Event, event, after, play}
-use Rattle.calm.specs.Calm.{below, isDone, allDone, Lively, end, then}
+use Rattle.rules.specs.Cluster.{Cluster, Event, event, after, play, isDone}
+use Rattle.calm.specs.Calm.{below, allDone, Lively, end, then}
 use Rattle.ring.proofs.Parts.{row-in}
 use Rattle.cluster.specs.Runs.{channelAt, lowest, easings, tally}
 use Rattle.cluster.proofs.Series.{channel-in, ease-more, ease-none}

@@ -8,23 +8,20 @@ use lib.Dec.{eqb}
 use lib.ListN.{length, getD, take}
 use Rattle.base.specs.Choice.{pick, both}
 use Rattle.base.specs.Refusals.{STATE}
-use Rattle.base.specs.Transaction.{Hist, none}
+use Rattle.base.specs.Transaction.{Hist, none, Begins}
 use Rattle.base.specs.Record.{entry}
 use Rattle.base.specs.declared.Sizes.{Sizes}
 use Rattle.rules.specs.Cluster.{Event, start, play, trace}
 use Rattle.rules.specs.Words.{txns, zeros}
 use Rattle.ledger.specs.Delivered.{deliveredOf}
 use Rattle.ledger.specs.Records.{count, isE, Submitted}
-use Rattle.cluster.specs.Parts.{part}
-use Rattle.cluster.specs.Site.{Site, siteOf, recordAt, clusterOf, goodSite}
+use Rattle.site.specs.Parts.{part}
+use Rattle.site.specs.Site.{Site, siteOf, recordAt, clusterOf, goodSite}
 use Rattle.cluster.specs.Runs.{goodFresh, freshOf, eventsOf, played, tally}
-use Rattle.cluster.specs.declared.Cluster.{Cluster}
+use Rattle.site.specs.declared.Cluster.{Cluster}
 use Rattle.cluster.specs.declared.Ran.{Ran}
 
 -- x begins y
-abbrev pub Begins : Hist → Hist → Type 0
-Begins x y = take (length x) y ≡ x
-
 -- what server i has delivered: the first d transactions of its words
 abbrev pub deliveredAt : Sizes → Cluster → List ℕ → ℕ → Hist
 deliveredAt z c h i = take (recordAt (c .servers) i .d .0) (txns (recordAt (c .servers) i .len .0) (part z i h))

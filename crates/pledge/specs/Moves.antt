@@ -12,8 +12,8 @@ use Rattle.base.specs.Transaction.{LAST, ident, lastId}
 use Rattle.base.specs.declared.Sizes.{Sizes}
 use Rattle.rules.specs.Cluster.{Cluster as Servers, Event, S, start, event, after, play}
 use Rattle.calm.specs.Calm.{below, naming, Recovered, Established, submitted-entry}
-use Rattle.cluster.specs.Site.{Site, clusterOf, goodSite}
-use Rattle.cluster.specs.Events.{After, eventOf}
+use Rattle.site.specs.Site.{Site, clusterOf, goodSite}
+use Rattle.turn.specs.Events.{After, eventOf}
 use Rattle.cluster.specs.Runs.{played, tally, easings}
 use Rattle.pledge.specs.declared.Calmed.{Calmed}
 

@@ -1,11 +1,11 @@
 // A cluster's code and the theorems together: what its runs promise of the words that they leave.
 use base::Sizes;
-use cluster::Cluster;
-use cluster::Happening;
 use cluster::Ran;
+use site::Cluster;
+use turn::Happening;
 ghost use Prim.Native.Nat.{_<_};
 ghost use mathlib.Core.Path.{_≡_};
-ghost use Rattle.cluster.specs.Site.{siteOf};
+ghost use Rattle.site.specs.Site.{siteOf};
 ghost use Rattle.pledge.specs.Ledger.{Pledged};
 ghost use Rattle.pledge.specs.Moves.{otherAt, nameWords, Calms};
 

@@ -1,30 +1,29 @@
 -- Laws of words and what they stand for.
 use Prim.Native.Nat.{ℕ, zero, suc, _+_, _-_, _*_, _≤_, _<_}
 use mathlib.Core.Path.{_≡_, refl, sym, ap, _∙_}
-use mathlib.Core.Logic.{_≢_, _⊎_, inl, inr, ⊎-elim}
-use mathlib.Core.Bool.{Bool, true, false, not}
-use mathlib.Core.List.{List, [], _∷_, _++_, append-assoc, append-nil}
+use mathlib.Core.Logic.{_≢_, _⊎_, ⊎-elim}
+use mathlib.Core.Bool.{true, false}
+use mathlib.Core.List.{List, [], _∷_, _++_, append-assoc}
 use native.Mathlib.Omega.{arith}
-use native.Mathlib.Numerals.{add-one}
-use lib.Dec.{eqb, leb, ltb}
-use lib.ListN.{length, take, drop, getD, set, length-append, length-take, length-drop, drop-of-length-le, take-append-drop, List·getD-append, List·getD-eq-default}
-use lib.Seq.{take-suc, take-all, drop-drop, drop-cons, length-take-le, getD-drop, getD-at, getD-set-same, getD-set-other, sets, sets-eq, take-at, drop-at, take-append-le}
-use borrow.Author.Tests.{eqb-true, eqb-false, leb-true, ltb-true, eq-eqb, ne-eqb, le-leb}
+use lib.Dec.{eqb, leb}
+use lib.ListN.{length, take, drop, getD, set, replicate, length-append, length-drop, take-append-drop, List·getD-append, List·getD-eq-default}
+use lib.Seq.{take-suc, take-all, drop-drop, length-take-le, getD-drop, getD-at, getD-set-same, getD-set-other, sets, sets-eq, take-at, drop-at}
+use borrow.Author.Tests.{eqb-true, leb-true, eq-eqb, ne-eqb, le-leb}
 use borrow.Rule.Slice.PartMut.{putMid}
 use Rattle.base.specs.Choice.{pick, both, either, upd}
-use Rattle.base.specs.Quorum.{Set, nobody, just}
-use Rattle.base.specs.Transaction.{Hist, none, idAt, lastId}
+use Rattle.base.specs.Quorum.{nobody, just}
+use Rattle.base.specs.Transaction.{Hist, lastId}
 use Rattle.base.specs.declared.Txn.{Txn}
 use Rattle.base.specs.declared.Sizes.{Sizes}
-use Rattle.base.proofs.Choice.{both-true, both-yes, eq-or, le-or-lt, upd-same, upd-other, clash, passes}
+use Rattle.base.proofs.Choice.{both-true, both-yes, eq-or, le-or-lt, upd-same, upd-other, clash}
 use Rattle.base.proofs.History.{last-snoc}
 use Rattle.base.proofs.Good.{good-len}
 use Rattle.rules.specs.declared.State.{State}
-use Rattle.rules.specs.Message.{Msg, cepoch, newepoch, acke, newleader, ackld, commitld, propose, ack, commit, junk, kind, Send, formed}
+use Rattle.rules.specs.Message.{Msg, cepoch, newepoch, acke, newleader, ackld, commitld, propose, ack, commit, junk, Send, formed}
 use Rattle.rules.specs.Server.{Server}
 use Rattle.rules.specs.Tree.{toAll, only}
 use Rattle.rules.proofs.Formed.{acke-says, newleader-says}
-use Rattle.rules.specs.Words.{txns, txnAt, flat, zeros, allZero, histWords, msgWords, msgSize, encode, word, second, laden, tidy, said, readMsg, has, num, serverWith, serverOf, tab, stateOf, goodWords, slot, slotSize, put, boxed}
+use Rattle.rules.specs.Words.{txns, txnAt, flat, zeros, allZero, histWords, msgWords, encode, second, laden, tidy, said, readMsg, num, serverWith, serverOf, tab, stateOf, goodWords, slot, slotSize, put, boxed}
 
 -- ---- transactions
 
@@ -220,6 +219,13 @@ server-back i s H a b c d =
       tab-back 7 (s .vol .counts) 0 d,
     )
 
+-- ---- zeros
+
+pub zero-at : (n i : ℕ) → _≡_ {A = ℕ} (getD (replicate n 0) i 0) 0
+zero-at zero i = refl
+zero-at (suc n) zero = refl
+zero-at (suc n) (suc i) = zero-at n i
+
 -- ---- words put into words
 
 -- stores one after the other
@@ -230,6 +236,19 @@ put-sets q ws k h = sets-eq ws q k h
 pub length-put : (q ws : List ℕ) (k : ℕ) → k + length ws ≤ length q → length (put q k ws) ≡ length q
 unfolding put
 length-put q ws k h = simp (length-append, length-take-le k q (omega arith), length-drop) (omega arith)
+
+pub put-put : (q a b : List ℕ) (at : ℕ) → at ≤ length q → put (put q at a) (at + length a) b ≡ put q at (a ++ b)
+unfolding put
+put-put q a b at h =
+    let n = at + length a in
+    let p = take at q ++ a in
+    let rest = drop n q in
+    let len : length p ≡ n = simp (length-append, length-take-le at q h) in
+    let num : n + length b ≡ at + length (a ++ b) = simp length-append (omega arith) in
+    let e1 : take n (p ++ rest) ≡ p = take-at p rest n len in
+    let e2 : drop (n + length b) (p ++ rest) ≡ drop (at + length (a ++ b)) q =
+    sym (drop-drop (length b) n (p ++ rest)) ∙ (ap (drop (length b)) (drop-at p rest n len) ∙ (drop-drop (length b) n q ∙ ap (λ (k : ℕ). drop k q) num)) in
+    (λ i. e1 i ++ b ++ e2 i) ∙ ap (λ (x : List ℕ). x ++ drop (at + length (a ++ b)) q) (append-assoc (take at q) a b)
 
 -- a callee was lent the k words from a on, and left ys there
 pub mid-put : (a k : ℕ) (xs ys : List ℕ) → length ys ≡ k → putMid a k xs ys ≡ put xs a ys

@@ -1,14 +1,12 @@
 -- Servers and the first-in first-out channels between them, an event, a run, and the records that an event leaves.
-use Prim.Native.Nat.{ℕ, zero, suc, _+_, _-_}
+use Prim.Native.Nat.{ℕ, suc, _+_}
 use mathlib.Core.Bool.{Bool, true, false, not}
 use mathlib.Core.List.{List, [], _∷_, _++_, map}
 use lib.Dec.{eqb, leb, ltb}
 use lib.ListN.{length, take, drop}
 use Rattle.base.specs.Choice.{pick, both, either, upd, upd₂, allBelow}
-use Rattle.base.specs.Transaction.{Hist}
 use Rattle.base.specs.Refusals.{EVENT, MESSAGE, SPENT, ROOM}
 use Rattle.base.specs.Record.{Rec, E, B, «V», X, entry}
-use Rattle.base.specs.declared.Txn.{Txn}
 use Rattle.base.specs.declared.Sizes.{Sizes}
 use Rattle.rules.specs.Message.{Msg, Send}
 use Rattle.rules.specs.Server.{Server, fresh, L4}
@@ -81,6 +79,11 @@ event z depth c (S s v) = at z depth c s true (c .chan) (submit v)
 unfoldable pub after : Outcome → Cluster
 after (told k c) = c
 after (done i s s′ asked c) = c
+
+-- was it taken?
+unfoldable pub isDone : Outcome → Bool
+isDone (told k c) = false
+isDone (done i s s′ asked c) = true
 
 -- ---- the records of an event, in the order E, B, V
 

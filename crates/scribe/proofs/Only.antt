@@ -1,9 +1,9 @@
 -- Two answers that meet the promise of a line are equal, and so is every word and byte.
 use Prim.Native.Nat.{ℕ}
-use mathlib.Core.Path.{_≡_, sym, ap, _∙_}
+use mathlib.Core.Path.{_≡_, sym, _∙_}
 use mathlib.Core.List.{List}
 use Rattle.rules.specs.Cluster.{Event}
-use Rattle.cluster.specs.declared.Cluster.{Cluster}
+use Rattle.site.specs.declared.Cluster.{Cluster}
 use Rattle.cluster.proofs.Only.{same-cluster, same-words}
 use Rattle.scribe.specs.Telling.{Tells}
 use Rattle.scribe.specs.declared.Said.{Said}

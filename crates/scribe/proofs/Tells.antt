@@ -1,40 +1,40 @@
 -- A line of the script: what the rules leave in the trace is what is written.
-use Prim.Native.Nat.{ℕ, zero, suc, _+_, _-_, _*_, _≤_, _<_}
-use mathlib.Core.Path.{_≡_, refl, sym, ap, _∙_, subst}
-use mathlib.Core.Logic.{_≢_, _⊎_, inl, inr, ⊎-elim}
+use Rattle.turn.proofs.Outcomes.{outcome-after}
+use Prim.Native.Nat.{ℕ, _+_, _-_, _≤_, _<_}
+use mathlib.Core.Path.{_≡_, sym, ap, _∙_, subst}
+use mathlib.Core.Logic.{_≢_}
 use mathlib.Core.Bool.{Bool, true, false, not}
 use mathlib.Core.List.{List, [], _∷_, _++_, map}
 use native.Mathlib.Omega.{arith}
-use lib.Dec.{eqb, leb, ltb}
+use lib.Dec.{eqb, ltb}
 use lib.ListN.{length, take, drop}
 use borrow.Author.Tests.{eq-eqb, ne-eqb, eqb-true, ltb-true, lt-ltb}
 use Rattle.base.specs.Choice.{pick, both, allBelow}
 use Rattle.base.specs.Refusals.{STATE}
-use Rattle.base.specs.Record.{Rec, E, B, «V», X, entry}
+use Rattle.base.specs.Record.{E, B, «V», X, entry}
 use Rattle.base.specs.declared.Txn.{Txn}
 use Rattle.base.specs.declared.Sizes.{Sizes}
-use Rattle.base.proofs.Choice.{case, clash, both-true, all-at}
+use Rattle.base.proofs.Choice.{case, both-true, all-at}
 use Rattle.rules.specs.declared.State.{State}
 use Rattle.rules.specs.Message.{Msg}
 use Rattle.rules.specs.Server.{Server}
 use Rattle.rules.specs.Step.{Input}
-use Rattle.rules.specs.Cluster.{Cluster as Servers, Channels, Event, O, R, D, S, Outcome, told, done, at, hand, event, after, enters, begun, newly, records}
+use Rattle.rules.specs.Cluster.{Cluster as Servers, Channels, Event, O, R, D, S, told, done, at, hand, event, after, enters, begun, newly, records}
 use Rattle.rules.specs.Words.{txns, serverOf, goodState}
 use Rattle.rules.proofs.Words.{length-txns, take-txns}
 use Rattle.ring.specs.Queue.{goodRings}
 use Rattle.server.proofs.Laws.{facts}
-use Rattle.cluster.specs.declared.Cluster.{Cluster}
-use Rattle.cluster.specs.declared.Told.{Told}
-use Rattle.cluster.specs.Parts.{share, part}
-use Rattle.cluster.specs.Site.{Site, siteOf, recordAt, seated, serverAt, clusterOf, goodSeat, fitting, goodSite}
-use Rattle.cluster.specs.Events.{After, stays, wholeEvent, eventOf, actor, asks, outcomeOf, Leaves}
-use Rattle.cluster.specs.Turns.{afterOf}
+use Rattle.site.specs.declared.Cluster.{Cluster}
+use Rattle.site.specs.declared.Told.{Told}
+use Rattle.site.specs.Parts.{part}
+use Rattle.site.specs.Site.{Site, siteOf, recordAt, seated, serverAt, clusterOf, goodSeat, fitting, goodSite}
+use Rattle.turn.specs.Events.{wholeEvent, actor, asks, outcomeOf}
+use Rattle.turn.specs.Turns.{afterOf}
 use Rattle.cluster.specs.Runs.{Happens}
-use Rattle.cluster.proofs.Seats.{part-in}
-use Rattle.cluster.proofs.Goods.{sizes-facts, Fits, fit-facts}
+use Rattle.site.proofs.Seats.{part-in}
+use Rattle.site.proofs.Goods.{Fits, fit-facts}
 use Rattle.script.specs.Text.{bytesOf, Wrote}
 use Rattle.scribe.specs.Telling.{text, marked, notes, entered, doneBy, Seen, said, Tells}
-use Rattle.scribe.specs.declared.Said.{Said}
 use Rattle.scribe.proofs.Notes.{text-one, notes-are}
 
 -- ---- what is taken is taken by one of the servers
@@ -90,12 +90,8 @@ module _ (c : Cluster) (line : ℕ) (e : Event) (h k q o b : List ℕ) (t : Told
   abbrev w′ : Site
   w′ = siteOf (t .cluster) h′ k′ q′ o′
 
-  outcome-after : (x : After) → after (outcomeOf z (c .depth) e w x) ≡ clusterOf z (c .depth) (x .site)
-  unfolding outcomeOf after pick
-  outcome-after x = case (eqb (x .code) 0) (λ (y : eqb (x .code) 0 ≡ true). rw y) (λ (y : eqb (x .code) 0 ≡ false). rw y)
-
   rules : goodSite z (c .depth) w ≡ true → clusterOf z (c .depth) w′ ≡ after (event z (c .depth) (clusterOf z (c .depth) w) e)
-  rules g = sym (ap after (H .rules g) ∙ outcome-after (afterOf t h′ k′ q′ o′))
+  rules g = sym (ap after (H .rules g) ∙ outcome-after z (c .depth) e w (afterOf t h′ k′ q′ o′))
 
   module _ (r : ℕ) (b′ : List ℕ) where
     tells : Wrote b 0 (said z (c .depth) line o e c h k q) r b′ → Tells c line e h k q o b (record { end = r; cluster = t .cluster }) h′ k′ q′ o′ b′

@@ -4,22 +4,20 @@ use mathlib.Core.Path.{_≡_}
 use mathlib.Core.Bool.{Bool, true, false, not}
 use mathlib.Core.List.{List, [], _∷_, _++_, map}
 use lib.Dec.{eqb}
-use lib.ListN.{length, take, drop}
+use lib.ListN.{length, drop}
 use Rattle.base.specs.Choice.{pick, both}
 use Rattle.base.specs.Refusals.{STATE}
 use Rattle.base.specs.Record.{Rec, E, B, «V», X, entry}
 use Rattle.base.specs.declared.Txn.{Txn}
 use Rattle.base.specs.declared.Sizes.{Sizes}
 use Rattle.rules.specs.declared.State.{State}
-use Rattle.rules.specs.Server.{Server, L4}
-use Rattle.rules.specs.Cluster.{Event, O, R, D, S, event, after, enters, begun, newly, records, trace, start}
-use Rattle.rules.specs.Words.{txnAt, txns, serverOf, goodState}
-use Rattle.server.specs.declared.Answer.{Answer}
-use Rattle.cluster.specs.declared.Cluster.{Cluster}
-use Rattle.cluster.specs.declared.Happening.{Happening}
-use Rattle.cluster.specs.Parts.{share, part}
-use Rattle.cluster.specs.Site.{siteOf, recordAt, clusterOf, goodSite}
-use Rattle.cluster.specs.Events.{wholeEvent}
+use Rattle.rules.specs.Server.{L4}
+use Rattle.rules.specs.Cluster.{Event, O, R, D, S, event, after, records, trace, start}
+use Rattle.rules.specs.Words.{txnAt}
+use Rattle.site.specs.declared.Cluster.{Cluster}
+use Rattle.site.specs.Parts.{share}
+use Rattle.site.specs.Site.{siteOf, recordAt, clusterOf, goodSite}
+use Rattle.turn.specs.Events.{wholeEvent}
 use Rattle.script.specs.declared.Command.{Command}
 use Rattle.script.specs.declared.Command.the-variants.{Begin, Oracle, Restart, Deliver, Submit, Bad}
 use Rattle.script.specs.Line.{lineOf}

@@ -1,20 +1,19 @@
 // What a line of the script does to the cluster, and what it leaves in the trace.
-use cluster::Cluster;
-use cluster::Happening;
 use rules::State;
 use script::Command;
 use script::Note;
+use site::Cluster;
+use turn::Happening;
 ghost use mathlib.Core.Path.{_≡_};
-ghost use mathlib.Core.Bool.{Bool, true};
-ghost use mathlib.Core.List.{List, []};
-ghost use Prim.Native.Nat.{ℕ, _+_, _-_, _*_, _≤_, _<_};
+ghost use mathlib.Core.Bool.{true};
+ghost use Prim.Native.Nat.{_+_, _-_, _*_, _≤_, _<_};
 ghost use lib.ListN.{length, drop};
 ghost use Rattle.base.specs.Choice.{pick};
 ghost use Rattle.base.specs.declared.Sizes.{Sizes};
 ghost use Rattle.rules.specs.Words.{txnAt};
-ghost use Rattle.cluster.specs.Parts.{part};
-ghost use Rattle.cluster.specs.Site.{recordAt};
-ghost use Rattle.cluster.specs.Events.{meant, actor, asks};
+ghost use Rattle.site.specs.Parts.{part};
+ghost use Rattle.site.specs.Site.{recordAt};
+ghost use Rattle.turn.specs.Events.{meant, actor, asks};
 ghost use Rattle.script.specs.Text.{recOf, Wrote};
 ghost use Rattle.scribe.specs.Telling.{text, eventFor, marked, notes, entered, doneBy, Seen, MOST, Tells};
 

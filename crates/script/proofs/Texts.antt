@@ -1,11 +1,12 @@
 -- Laws of writing: digits, and bytes put one after the other.
+use Rattle.rules.proofs.Words.{put-put}
 use Prim.Native.Nat.{ℕ, zero, suc, _+_, _*_, _/_, _%_, _≤_, _<_}
 use mathlib.Core.Path.{_≡_, sym, ap, _∙_}
 use mathlib.Core.List.{List, [], _∷_, _++_, append-assoc}
 use native.Mathlib.Omega.{arith}
 use lib.Dec.{ltb}
 use lib.ListN.{length, take, drop, set, length-append, length-set}
-use lib.Seq.{drop-drop, take-at, drop-at, set-split, length-take-le}
+use lib.Seq.{set-split}
 use borrow.Author.Tests.{lt-ltb, le-ltb, ltb-true, ltb-false}
 use Rattle.base.specs.Choice.{pick}
 use Rattle.base.proofs.Choice.{case, pick-at}
@@ -59,19 +60,6 @@ pub tenth-few : (v : ℕ) → v < 18446744073709551616 → length (digits (v / 1
 tenth-few v h = rw (tenth v h) (few 19 (v / 10))
 
 -- ---- bytes put
-
-put-put : (q a b : List ℕ) (at : ℕ) → at ≤ length q → put (put q at a) (at + length a) b ≡ put q at (a ++ b)
-unfolding put
-put-put q a b at h =
-    let n = at + length a in
-    let p = take at q ++ a in
-    let rest = drop n q in
-    let len : length p ≡ n = simp (length-append, length-take-le at q h) in
-    let num : n + length b ≡ at + length (a ++ b) = simp length-append (omega arith) in
-    let e1 : take n (p ++ rest) ≡ p = take-at p rest n len in
-    let e2 : drop (n + length b) (p ++ rest) ≡ drop (at + length (a ++ b)) q =
-    sym (drop-drop (length b) n (p ++ rest)) ∙ (ap (drop (length b)) (drop-at p rest n len) ∙ (drop-drop (length b) n q ∙ ap (λ (k : ℕ). drop k q) num)) in
-    (λ i. e1 i ++ b ++ e2 i) ∙ ap (λ (x : List ℕ). x ++ drop (at + length (a ++ b)) q) (append-assoc (take at q) a b)
 
 pub wrote-one : (q : List ℕ) (at v : ℕ) → at < length q → Wrote q at (v ∷ []) (at + 1) (set q at v)
 unfolding put

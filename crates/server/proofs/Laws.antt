@@ -1,13 +1,12 @@
 -- From the rules to a plan, and from a plan to the whole answer.
 use Prim.Native.Nat.{ℕ, zero, suc, _+_, _-_, _*_, _≤_, _<_}
 use mathlib.Core.Path.{_≡_, refl, sym, ap, subst, _∙_}
-use mathlib.Core.Logic.{_≢_, _⊎_, inl, inr, ⊎-elim}
-use mathlib.Core.Bool.{Bool, true, false, not}
-use mathlib.Core.List.{List, [], _∷_, _++_}
+use mathlib.Core.Logic.{_≢_}
+use mathlib.Core.Bool.{Bool, true, false}
+use mathlib.Core.List.{List, [], _∷_}
 use native.Mathlib.Omega.{arith}
-use lib.Dec.{eqb, leb, ltb}
-use lib.ListN.{length, take, drop, length-drop, length-append, getD}
-use lib.Seq.{take-all}
+use lib.Dec.{eqb, leb}
+use lib.ListN.{length, drop, length-drop, length-append, getD}
 use borrow.Author.Tests.{eq-eqb, ne-eqb, eqb-true, leb-true, le-leb, lt-leb, lt-ltb, le-ltb}
 use Rattle.base.specs.Choice.{pick, both}
 use Rattle.base.specs.Transaction.{Hist}
@@ -19,9 +18,9 @@ use Rattle.base.proofs.Choice.{both-true, both-yes, both-no, pick-at, tests, cl
 use Rattle.rules.specs.declared.State.{State}
 use Rattle.rules.specs.Message.{Msg, cepoch, newepoch, acke, newleader, ackld, commitld, propose, ack, commit, junk, Send, formed}
 use Rattle.rules.specs.Server.{Server, goodSizes, wellFormed}
-use Rattle.rules.specs.Tree.{Tree, Res, refused, taken, run, toAll}
+use Rattle.rules.specs.Tree.{Res, refused, taken, run}
 use Rattle.rules.specs.Step.{receive, onOracle, onRestart, onSubmit, Input, oracle, restart, message, submit, step}
-use Rattle.rules.specs.Words.{txns, txnAt, allZero, histWords, msgSize, slotSize, readMsg, has, num, serverWith, serverOf, stateOf, goodWords, goodState, boxed}
+use Rattle.rules.specs.Words.{txns, allZero, histWords, msgSize, slotSize, readMsg, serverWith, serverOf, stateOf, goodWords, goodState}
 use Rattle.rules.proofs.Trees.{All}
 use Rattle.rules.proofs.Kept.{Sendable, step-kept}
 use Rattle.rules.proofs.WellFormed.{whole, sized}
@@ -29,7 +28,7 @@ use Rattle.rules.proofs.Words.{length-txns, words-good, hist-good, state-back, 
 use Rattle.plan.specs.declared.Plan.{Plan}
 use Rattle.plan.specs.declared.Message.{Message}
 use Rattle.plan.specs.declared.Message.the-variants.{Cepoch, Newepoch, Acke, Newleader, Ackld, Commitld, Propose, Ack, Commit, Bad}
-use Rattle.plan.specs.Plans.{histFrom, candFrom, histOf, candOf, sends, meaning, meant, held, refusalOf, Sized, From, Fit, Plans}
+use Rattle.plan.specs.Plans.{histFrom, candFrom, histOf, candOf, sends, meaning, meant, held, refusalOf, Sized, Fit, Plans}
 use Rattle.plan.proofs.Laws.{turned-away}
 use Rattle.message.specs.Reads.{wellRead, Reads}
 use Rattle.hands.specs.Hands.{Ready, Performed}
@@ -37,7 +36,7 @@ use Rattle.hands.proofs.Ready.{ready}
 use Rattle.server.specs.declared.Event.{Event}
 use Rattle.server.specs.declared.Event.the-variants.{Oracle, Restart, Deliver, Submit, Unknown}
 use Rattle.server.specs.declared.Answer.{Answer}
-use Rattle.server.specs.Whole.{answerOf, lentLen, lent, loadAt, can, Can, six, Known, Out, stay, written, stepOf, Does, Loads, Decides, Steps}
+use Rattle.server.specs.Whole.{answerOf, lentLen, loadAt, can, Can, six, Known, Out, written, stepOf, Does, Loads, Decides, Steps}
 
 -- ---- what is known of well-formed records and words
 
@@ -372,14 +371,6 @@ load-fits z s Unknown h k m c = (omega arith, omega arith)
 
 pub can-deliver : (z : Sizes) (s : State) (ev : Event) (f : ℕ) (h k m : List ℕ) → ev ≡ Deliver f → Can z s ev h k m → Can z s (Deliver f) h k m
 can-deliver z s ev f h k m q c = rw q at c
-
-pub not-yes : (b : Bool) → not b ≡ true → b ≡ false
-not-yes true e = clash e refl
-not-yes false e = refl
-
-pub not-no : (b : Bool) → not b ≡ false → b ≡ true
-not-no true e = refl
-not-no false e = clash refl e
 
 pub room-of : (z : Sizes) (s : State) (h k : List ℕ) (b : Bool) → b ≡ both (goodSizes z) (goodState z s h k) → b ≡ true → z .room .0 ≤ 64
 room-of z s h k b e q = sized z (both-true (goodSizes z) (goodState z s h k) (sym e ∙ q) .0) .room

@@ -1,7 +1,7 @@
 -- How many messages a plan sends to a server is read off its two casts.
 use Prim.Native.Nat.{ℕ, zero, suc, _+_, _≤_, _<_}
 use mathlib.Core.Path.{_≡_, refl, sym, ap, _∙_}
-use mathlib.Core.Logic.{_≢_, _⊎_, inl, inr, ⊎-elim}
+use mathlib.Core.Logic.{_≢_, _⊎_, ⊎-elim}
 use mathlib.Core.Bool.{Bool, true, false, not}
 use mathlib.Core.List.{List, [], _∷_, _++_}
 use native.Mathlib.Omega.{arith}
@@ -11,15 +11,15 @@ use borrow.Author.Tests.{eq-eqb, ne-eqb, lt-ltb, le-ltb}
 use Rattle.base.specs.Choice.{pick, both}
 use Rattle.base.specs.Quorum.{Set}
 use Rattle.base.specs.declared.Sizes.{Sizes}
-use Rattle.base.proofs.Choice.{eq-or, le-or-lt, case, clash, both-true, both-yes, both-no}
+use Rattle.base.proofs.Choice.{eq-or, le-or-lt, both-true, both-no, both-first}
 use Rattle.rules.specs.declared.State.{State}
 use Rattle.rules.specs.Message.{Msg, Send}
 use Rattle.rules.specs.Server.{goodSizes}
-use Rattle.rules.specs.Tree.{Res, refused, taken, toAll}
-use Rattle.rules.specs.Words.{has, tab, goodState, serverWith}
+use Rattle.rules.specs.Tree.{toAll}
+use Rattle.rules.specs.Words.{has, tab, goodState}
 use Rattle.plan.specs.declared.Cast.{Cast}
 use Rattle.plan.specs.declared.Plan.{Plan}
-use Rattle.plan.specs.Plans.{decode, castOf, sends, meaning, histOf, candOf}
+use Rattle.plan.specs.Plans.{decode, castOf, sends, meaning, histOf}
 use Rattle.server.specs.declared.Event.{Event}
 use Rattle.server.specs.declared.Forecast.{Forecast}
 use Rattle.server.specs.Whole.{answerOf, lentLen, can, loadAt, Can, Decides}
@@ -108,12 +108,7 @@ Not = record { code = 1; empties = false; to = replicate 7 0 }
 module _ (z : Sizes) (s : State) (ev : Event) (h k m : List ℕ) (v : Forecast) where
   pub preview-state : (b : Bool) → b ≡ both (goodSizes z) (goodState z s h k) → b ≡ false → v ≡ Not → v ≡ previewOf z s ev h k m
   unfolding previewOf can pick both
-  preview-state b e q x = x ∙ rw (not-can (goodSizes z) (goodState z s h k) (lentLen z ev (length m)) (sym e ∙ q))
-    where
-      not-can : (p g l : Bool) → both p g ≡ false → both p (both g l) ≡ false
-      not-can true true l y = clash refl y
-      not-can true false l y = refl
-      not-can false g l y = refl
+  preview-state b e q x = x ∙ rw (both-first (goodSizes z) (goodState z s h k) (lentLen z ev (length m)) (sym e ∙ q))
 
   pub preview-lent : (b d : Bool) → b ≡ both (goodSizes z) (goodState z s h k) → b ≡ true → d ≡ lentLen z ev (length m) → d ≡ false → v ≡ Not → v ≡ previewOf z s ev h k m
   unfolding previewOf can pick both

@@ -1,11 +1,11 @@
-use Rattle.base.proofs.Choice.{not-is}
-use Rattle.cluster.proofs.Goods.{not-no, fresh-refused, fresh-does}
+use Rattle.cluster.proofs.Begun.{fresh-refused, fresh-does}
+use Rattle.base.proofs.Choice.{not-is, not-no}
 use borrow.Author.Needs.{needs}
 use Rattle.cluster.proofs.fresh.Statement.{statement}
 use Rattle.cluster.proofs.fresh.Tie as tie
 use Rattle.cluster.proofs.fresh.Reads as reads
 use Rattle.cluster.proofs.fresh.Lts as lts
-use Rattle.cluster.proofs.good.may_lend.Reads as may-lend-reads
+use Rattle.site.proofs.may_lend.Reads as may-lend-reads
 use Rattle.cluster.proofs.start.fresh_cluster.Reads as fresh-cluster-reads
 use Rattle.words.proofs.clear_from.Reads as clear-from-reads
 

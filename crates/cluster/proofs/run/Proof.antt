@@ -4,16 +4,16 @@ use Prim.Native.Nat.{ℕ, _/_, _<_}
 use mathlib.Core.Path.{_≡_, sym, _∙_}
 use native.Mathlib.Omega.{arith}
 use lib.ListN.{length, length-map}
-use Rattle.base.proofs.Choice.{not-is}
-use Rattle.cluster.specs.Site.{siteOf}
-use Rattle.cluster.proofs.Goods.{not-no, good-lent}
+use Rattle.base.proofs.Choice.{not-is, not-no}
+use Rattle.site.specs.Site.{siteOf}
+use Rattle.site.proofs.Goods.{good-lent}
 use Rattle.cluster.proofs.Series.{runs-refused, run-unsound, run-uneven, run-sound, within-all, within-budget, run-does}
 use borrow.Author.Needs.{needs}
 use Rattle.cluster.proofs.run.Statement.{statement}
 use Rattle.cluster.proofs.run.Tie as tie
 use Rattle.cluster.proofs.run.Reads as reads
 use Rattle.cluster.proofs.run.Lts as lts
-use Rattle.cluster.proofs.good.good.Reads as good-reads
+use Rattle.site.proofs.good.Reads as good-reads
 use Rattle.cluster.proofs.many.many.Reads as many-reads
 use Rattle.cluster.proofs.many.refused.Reads as refused-reads
 

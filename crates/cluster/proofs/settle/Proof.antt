@@ -4,16 +4,16 @@ use borrow.Author.Needs.{length-unmapped}
 use Prim.Native.Nat.{ℕ}
 use mathlib.Core.Path.{_≡_, sym, _∙_}
 use lib.ListN.{length, length-map}
-use Rattle.base.proofs.Choice.{not-is}
-use Rattle.cluster.specs.Site.{siteOf, clusterOf}
-use Rattle.cluster.proofs.Goods.{not-no, good-lent}
+use Rattle.base.proofs.Choice.{not-is, not-no}
+use Rattle.site.specs.Site.{siteOf, clusterOf}
+use Rattle.site.proofs.Goods.{good-lent}
 use Rattle.cluster.proofs.Series.{settle-refused, settle-does}
 use borrow.Author.Needs.{needs}
 use Rattle.cluster.proofs.settle.Statement.{statement}
 use Rattle.cluster.proofs.settle.Tie as tie
 use Rattle.cluster.proofs.settle.Reads as reads
 use Rattle.cluster.proofs.settle.Lts as lts
-use Rattle.cluster.proofs.good.good.Reads as good-reads
+use Rattle.site.proofs.good.Reads as good-reads
 use Rattle.cluster.proofs.many.ease.Reads as ease-reads
 use Rattle.cluster.proofs.many.refused.Reads as refused-reads
 

@@ -1,13 +1,9 @@
-use Prim.Native.Nat.{ℕ, zero, suc, _+_, _-_, _*_, _≤_, _<_}
-use mathlib.Core.Path.{_≡_, refl, sym, ap, _∙_}
-use mathlib.Core.Bool.{Bool, true, false, not}
-use mathlib.Core.Logic.{_≢_, ⊎-elim, _⊎_, inl, inr}
-use mathlib.Core.List.{List, [], _∷_, _++_}
+use Prim.Native.Nat.{_-_, _*_, _≤_}
+use mathlib.Core.Path.{_≡_, ap}
 use native.Mathlib.Omega.{arith}
-use lib.Dec.{eqb, leb, ltb}
-use lib.ListN.{length, take, drop, getD, set, length-set}
+use lib.ListN.{length}
 use Rattle.replay.proofs.Laws.{square, wrote-in}
-use Rattle.cluster.specs.declared.Cluster.{Cluster}
+use Rattle.site.specs.declared.Cluster.{Cluster}
 use borrow.Author.Needs.{needs}
 use Rattle.replay.proofs.begin.Statement.{statement}
 use Rattle.replay.proofs.begin.Tie as tie

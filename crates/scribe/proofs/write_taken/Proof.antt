@@ -1,13 +1,9 @@
-use Prim.Native.Nat.{ℕ, zero, suc, _+_, _-_, _*_, _≤_, _<_}
-use mathlib.Core.Path.{_≡_, refl, sym, ap, _∙_}
-use mathlib.Core.Bool.{Bool, true, false, not}
-use mathlib.Core.Logic.{_≢_, ⊎-elim, _⊎_, inl, inr}
-use mathlib.Core.List.{List, [], _∷_, _++_}
+use Prim.Native.Nat.{ℕ, _+_, _-_, _*_}
+use mathlib.Core.Path.{_≡_}
 use native.Mathlib.Omega.{arith}
-use lib.Dec.{eqb, leb, ltb}
-use lib.ListN.{length, take, drop, getD, set, length-set}
-use Rattle.cluster.specs.Parts.{share, part}
-use Rattle.cluster.specs.Site.{recordAt}
+use lib.ListN.{take, drop}
+use Rattle.site.specs.Parts.{share}
+use Rattle.site.specs.Site.{recordAt}
 use Rattle.script.specs.Text.{Wrote}
 use Rattle.scribe.specs.Telling.{text, doneBy}
 use mathlib.Core.Path.{subst}

@@ -1,16 +1,9 @@
-use Prim.Native.Nat.{ℕ, zero, suc, _+_, _-_, _*_, _≤_, _<_}
-use mathlib.Core.Path.{_≡_, refl, sym, ap, _∙_}
-use mathlib.Core.Bool.{Bool, true, false, not}
-use mathlib.Core.Logic.{_≢_, ⊎-elim, _⊎_, inl, inr}
-use mathlib.Core.List.{List, [], _∷_, _++_}
-use native.Mathlib.Omega.{arith}
-use native.Mathlib.Numerals.{add-one}
-use lib.Dec.{eqb, leb, ltb}
-use lib.ListN.{length, take, drop, getD, set, length-set}
+use Rattle.base.proofs.Choice.{not-is, not-no}
+use Prim.Native.Nat.{_-_}
+use mathlib.Core.Path.{refl}
 use denote.Ref.{now}
-use Rattle.base.specs.Choice.{pick}
-use Rattle.server.proofs.Room.{preview-state, preview-lent, preview-can, can-of, told-far, told-me, told-at, seven, seen-yes, seen-no, Not}
-use Rattle.server.proofs.Laws.{not-yes, not-no, room-of}
+use Rattle.server.proofs.Room.{preview-state, preview-lent, preview-can, can-of, Not}
+use Rattle.server.proofs.Laws.{room-of}
 use borrow.Author.Needs.{needs}
 use Rattle.server.proofs.preview.Statement.{statement}
 use Rattle.server.proofs.preview.Tie as tie
@@ -27,7 +20,7 @@ sound-requires c κs = search needs
 
 -- src/lib.rt:216:9
 returns : tie.Need-returns
-returns c = let a = c .before .before .before .before .before .args in preview-state (a .z) (a .s) (a .ev) (a .hist .now) (a .cand .now) (a .msg .now) _ _ (c .before .sound .ensures) (not-yes _ (c .if1 .taken)) refl
+returns c = let a = c .before .before .before .before .before .args in preview-state (a .z) (a .s) (a .ev) (a .hist .now) (a .cand .now) (a .msg .now) _ _ (c .before .sound .ensures) (not-is _ (c .if1 .taken)) refl
 
 -- src/lib.rt:218:9
 is-lent-requires : tie.Need-is-lent-requires
@@ -35,7 +28,7 @@ is-lent-requires c κs = let a = c .before .before .before .before .before .args
 
 -- src/lib.rt:219:9
 returns-2 : tie.Need-returns-2
-returns-2 c = let a = c .before .before .before .before .before .before .before .args in preview-lent (a .z) (a .s) (a .ev) (a .hist .now) (a .cand .now) (a .msg .now) _ _ _ (c .before .before .before .sound .ensures) (not-no _ (c .before .before .if1 .left)) (c .before .is-lent .ensures) (not-yes _ (c .if2 .taken)) refl
+returns-2 c = let a = c .before .before .before .before .before .before .before .args in preview-lent (a .z) (a .s) (a .ev) (a .hist .now) (a .cand .now) (a .msg .now) _ _ _ (c .before .before .before .sound .ensures) (not-no _ (c .before .before .if1 .left)) (c .before .is-lent .ensures) (not-is _ (c .if2 .taken)) refl
 
 -- src/lib.rt:221:9
 decide-requires : tie.Need-decide-requires

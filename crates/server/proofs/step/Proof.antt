@@ -1,17 +1,8 @@
-use Prim.Native.Nat.{ℕ, zero, suc, _+_, _-_, _*_, _≤_, _<_}
-use mathlib.Core.Path.{_≡_, refl, sym, ap, _∙_}
-use mathlib.Core.Bool.{Bool, true, false, not}
-use mathlib.Core.Logic.{_≢_, ⊎-elim, _⊎_, inl, inr}
-use mathlib.Core.List.{List, [], _∷_, _++_}
-use native.Mathlib.Omega.{arith}
-use native.Mathlib.Numerals.{add-one}
-use lib.Dec.{eqb, leb, ltb}
-use lib.ListN.{length, take, drop, getD, set, length-set}
+use Rattle.base.proofs.Choice.{not-is, not-no}
+use Prim.Native.Nat.{_-_}
+use mathlib.Core.Path.{refl}
 use denote.Ref.{now}
-use Rattle.server.specs.Whole.{answerOf, loadAt, lentLen, Can, Known, Decides, Steps, Does, stepOf}
-use Rattle.rules.specs.Words.{msgSize}
-use lib.ListN.{length-drop}
-use Rattle.server.proofs.Laws.{facts, Facts, sized-of, delivery-unknown, delivery-self, delivery-heard, on-oracle, on-restart, on-submit, on-unknown, on-deliver, may, carried, stood, state-not, lent-not, box-not, known-of, step-does, reads-ready, load-fits, can-deliver, not-yes, not-no, room-of, No}
+use Rattle.server.proofs.Laws.{state-not, lent-not, box-not, known-of, step-does, room-of, No}
 use borrow.Author.Needs.{needs}
 use Rattle.server.proofs.step.Statement.{statement}
 use Rattle.server.proofs.step.Tie as tie
@@ -35,7 +26,7 @@ same-length-2 c = search needs
 
 -- src/lib.rt:148:9
 returns : tie.Need-returns
-returns c = let a = c .before .before .before .before .before .before .before .before .args in state-not (a .z) (a .s) (a .ev) (a .hist .now) (a .cand .now) (a .msg .now) (a .out .now) _ _ (c .before .sound .ensures) (not-yes _ (c .if1 .taken)) refl
+returns c = let a = c .before .before .before .before .before .before .before .before .args in state-not (a .z) (a .s) (a .ev) (a .hist .now) (a .cand .now) (a .msg .now) (a .out .now) _ _ (c .before .sound .ensures) (not-is _ (c .if1 .taken)) refl
 
 -- src/lib.rt:150:9
 is-lent-requires : tie.Need-is-lent-requires
@@ -51,7 +42,7 @@ same-length-4 c = search needs
 
 -- src/lib.rt:151:9
 returns-2 : tie.Need-returns-2
-returns-2 c = let a = c .before .before .before .before .before .before .before .before .before .before .args in lent-not (a .z) (a .s) (a .ev) (a .hist .now) (a .cand .now) (a .msg .now) (a .out .now) _ _ _ (c .before .before .before .sound .ensures) (not-no _ (c .before .before .if1 .left)) (c .before .is-lent .ensures) (not-yes _ (c .if2 .taken)) refl
+returns-2 c = let a = c .before .before .before .before .before .before .before .before .before .before .args in lent-not (a .z) (a .s) (a .ev) (a .hist .now) (a .cand .now) (a .msg .now) (a .out .now) _ _ _ (c .before .before .before .sound .ensures) (not-no _ (c .before .before .if1 .left)) (c .before .is-lent .ensures) (not-is _ (c .if2 .taken)) refl
 
 -- src/lib.rt:153:34
 cast-if3 : tie.Need-cast-if3

@@ -1,3 +1,4 @@
+use Rattle.rules.proofs.WellFormed.{sized}
 use mathlib.Core.Path.{_∙_}
 use Rattle.cluster.proofs.Series.{ease-next}
 use borrow.Author.Needs.{needs}
@@ -6,7 +7,6 @@ use mathlib.Core.Path.{_≡_, refl}
 use native.Mathlib.Omega.{arith}
 use lib.ListN.{length}
 use Rattle.ring.proofs.Laws.{times}
-use Rattle.cluster.proofs.Goods.{sizes-facts}
 use Rattle.cluster.proofs.Series.{Easing, mid-good, ease-start, ease-stop, ease-end}
 use Rattle.cluster.proofs.many.ease.Statement.{statement}
 use Rattle.cluster.proofs.many.ease.Tie as tie
@@ -59,11 +59,11 @@ returns c = ease-stop _ _ _ _ _ _ _ _ _ _ _ _ (c .before .before .before .before
 
 -- src/many.rt:147:37
 div-t15 : tie.Need-div-t15 Inv-loop μ-loop
-div-t15 c = let s = sizes-facts (c .before .before .before .before .before .before .before .before .before .before .before .before .before .args .c .sizes) (c .before .before .before .before .before .before .loop .inv .1 .1 .1 .1 .1 .good .sizes) .0 .0 in omega arith
+div-t15 c = let s = sized (c .before .before .before .before .before .before .before .before .before .before .before .before .before .args .c .sizes) (c .before .before .before .before .before .before .loop .inv .1 .1 .1 .1 .1 .good .sizes) .three in omega arith
 
 -- src/many.rt:147:53
 rem-t17 : tie.Need-rem-t17 Inv-loop μ-loop
-rem-t17 c = let s = sizes-facts (c .before .before .before .before .before .before .before .before .before .before .before .before .before .args .c .sizes) (c .before .before .before .before .before .before .loop .inv .1 .1 .1 .1 .1 .good .sizes) .0 .0 in omega arith
+rem-t17 c = let s = sized (c .before .before .before .before .before .before .before .before .before .before .before .before .before .args .c .sizes) (c .before .before .before .before .before .before .loop .inv .1 .1 .1 .1 .1 .good .sizes) .three in omega arith
 
 -- src/many.rt:148:9
 on-requires : tie.Need-on-requires Inv-loop μ-loop

@@ -1,4 +1,4 @@
-use Rattle.cluster.specs.Events.{meant}
+use Rattle.turn.specs.Events.{meant}
 use Rattle.cluster.proofs.Series.{on-does}
 use borrow.Author.Needs.{needs}
 use Rattle.cluster.proofs.many.on.Statement.{statement}
@@ -6,7 +6,7 @@ use Rattle.cluster.proofs.many.on.Tie as tie
 use Rattle.cluster.proofs.many.on.Reads as reads
 use Rattle.cluster.proofs.many.on.Lts as lts
 use Rattle.cluster.proofs.many.one_if.Reads as one-if-reads
-use Rattle.cluster.proofs.turn.turn.Reads as turn-reads
+use Rattle.turn.proofs.turn.Reads as turn-reads
 
 -- src/many.rt:65:9
 turn-requires : tie.Need-turn-requires
