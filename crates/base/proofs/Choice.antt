@@ -86,6 +86,11 @@ both-first true true c e = clash refl e
 both-first true false c e = refl
 both-first false b c e = refl
 
+pub both-right : (x : Bool) → both x true ≡ x
+unfolding both
+both-right true = refl
+both-right false = refl
+
 pub not-is : (a : Bool) → not a ≡ true → a ≡ false
 not-is true e = clash e refl
 not-is false e = refl

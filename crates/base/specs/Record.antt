@@ -1,5 +1,8 @@
 -- The records of a trace.
 use Prim.Native.Nat.{ℕ}
+use mathlib.Core.Bool.{Bool}
+use lib.Dec.{eqb}
+use Rattle.base.specs.Choice.{both}
 use Rattle.base.specs.Transaction.{epochOf, counterOf}
 use Rattle.base.specs.declared.Txn.{Txn}
 
@@ -11,6 +14,10 @@ pub record Entry : Type 0 where
 
 abbrev pub entry : Txn → Entry
 entry t = record { ep = epochOf (t .id .0); ct = counterOf (t .id .0); vl = t .val }
+
+-- the same epoch, counter and value?
+unfoldable pub same : Entry → Entry → Bool
+same a b = both (eqb (a .ep) (b .ep)) (both (eqb (a .ct) (b .ct)) (eqb (a .vl) (b .vl)))
 
 pub data Rec : Type 0 where
   E : (s e : ℕ) → Rec  -- server s enters L4 in epoch e

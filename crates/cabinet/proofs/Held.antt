@@ -1,4 +1,5 @@
 -- The cluster's struct in words and back: reading and writing are inverse.
+use Rattle.ring.proofs.Parts.{tab-same}
 use Prim.Native.Nat.{ℕ, zero, suc, _+_, _*_, _≤_, _<_}
 use mathlib.Core.Path.{_≡_, refl, sym, ap, _∙_}
 use mathlib.Core.Bool.{true}
@@ -104,11 +105,6 @@ records-size : (ss : List State) → ((j : ℕ) → j < length ss → length (st
 unfolding recordsOf
 records-size [] v = refl
 records-size (s ∷ ss) v = length-append (stateWords s) (recordsOf ss) ∙ omega (arith, v 0 (omega arith), records-size ss (λ j m. v (suc j) (omega arith)))
-
-tab-same : {A : Type 0} (n : ℕ) (f g : ℕ → A) → ((i : ℕ) → i < n → f i ≡ g i) → tab n f ≡ tab n g
-unfolding tab
-tab-same zero f g e = refl
-tab-same (suc n) f g e = λ i. tab-same n f g (λ j m. e j (omega arith)) i ++ (e n (omega arith) i ∷ [])
 
 -- the parts of the words of a struct
 module _ (c : Cluster) (met taken : ℕ) (v : Full c) where

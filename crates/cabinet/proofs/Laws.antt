@@ -12,12 +12,12 @@ use borrow.Author.Tests.{eqb-true, leb-true, eq-eqb, ne-eqb, le-leb, lt-leb}
 use borrow.Rule.Slice.PartMut.{putMid, same-len-mid}
 use Rattle.base.specs.Choice.{pick, both}
 use Rattle.base.specs.declared.Sizes.{Sizes}
-use Rattle.base.proofs.Choice.{both-true, not-is, eq-or}
+use Rattle.base.proofs.Choice.{both-true, not-is, eq-or, not-no}
 use Rattle.rules.specs.declared.State.{State}
 use Rattle.rules.specs.Words.{put}
 use Rattle.octets.specs.Bytes.{wordsOf, bytesOf}
 use Rattle.octets.specs.Record.{bit, stateWords, stateAt, fits}
-use Rattle.octets.proofs.Laws.{length-words, length-bytes, was-true}
+use Rattle.octets.proofs.Laws.{length-words, length-bytes}
 use Rattle.server.specs.declared.Answer.{Answer}
 use Rattle.server.specs.declared.Event.{Event}
 use Rattle.server.specs.Whole.{stepOf, Does as WordsDo}
@@ -112,7 +112,7 @@ module _ (room b h k o t : ℕ) (most : room ≤ 64) (eb : b ≡ 304) (eh : h �
 pub sized-says : (room b h k o t : ℕ) (x : Bool) → x ≡ sized room b h k o t → not x ≡ false → Sized room b h k o t
 unfolding sized
 sized-says room b h k o t x e l =
-    let p = both-true (leb room 64) _ (sym e ∙ was-true x l) in
+    let p = both-true (leb room 64) _ (sym e ∙ not-no x l) in
     let q = both-true (eqb b 304) _ (p .1) in
     let r = both-true (eqb h (8 * histSize room)) _ (q .1) in
     let u = both-true (eqb k (8 * histSize room)) _ (r .1) in
@@ -132,7 +132,7 @@ pub is-lent : (event room lent : ℕ) (b h k m o t : List ℕ) (x y : Bool)
     → y ≡ slotted event room (length m) → not y ≡ false → lent ≡ lentWords event room → Lent room lent h k m o
 is-lent event room lent b h k m o t x y ex lx ey ly e =
     let z = sized-says room _ _ _ _ _ x ex lx in
-    let f = lent-few event room (length m) (z .most) (sym ey ∙ was-true y ly) in
+    let f = lent-few event room (length m) (z .most) (sym ey ∙ not-no y ly) in
     record { most = z .most; hist = z .hist; cand = z .cand; msg = rw e (f .0); few = rw e (f .1); box = z .box }
 
 -- ---- the returns
@@ -154,23 +154,23 @@ module _ (n room event who value : ℕ) (b h k m o t : List ℕ) (x : Bool) (ex 
   module _ (lx : not x ≡ false) (y : Bool) (ey : y ≡ slotted event room (length m)) where
     pub bad-slot : not y ≡ true → Does (zabOf n room event who value b h k m o t) 1 b h k o t
     unfolding zabOf pick both
-    bad-slot l = rw (← ex, was-true x lx, ← ey, not-is y l) (record { code = refl; rec = refl; hist = refl; cand = refl; box = refl; told = refl })
+    bad-slot l = rw (← ex, not-no x lx, ← ey, not-is y l) (record { code = refl; rec = refl; hist = refl; cand = refl; box = refl; told = refl })
 
     module _ (ly : not y ≡ false) (w : List ℕ) (ew : w ≡ wordsOf 38 b ++ drop 38 (replicate 38 0)) (v : Bool) (ev : v ≡ fits w) where
       pub bad-record : not v ≡ true → Does (zabOf n room event who value b h k m o t) 1 b h k o t
       unfolding zabOf pick both
       bad-record l =
           let f : fits (wordsOf 38 b) ≡ false = ap fits (sym (record-words b w ew)) ∙ sym ev ∙ not-is v l in
-          rw (← ex, was-true x lx, ← ey, was-true y ly, f) (record { code = refl; rec = refl; hist = refl; cand = refl; box = refl; told = refl })
+          rw (← ex, not-no x lx, ← ey, not-no y ly, f) (record { code = refl; rec = refl; hist = refl; cand = refl; box = refl; told = refl })
 
       module _ (lv : not v ≡ false) (s : State) (es : s ≡ stateAt w) (e : Event) (ee : e ≡ eventOf event who value) (lent : ℕ) (el : lent ≡ lentWords event room)
           (a : Answer) (h′ k′ o′ : List ℕ) (d : Steps (wordStep (sizes n room) s e lent h k m o) a h k o h′ k′ o′) where
         past : zabOf n room event who value b h k m o t ≡ answered (wordStep (sizes n room) s e lent h k m o) b h k o t
         unfolding zabOf pick both
         past =
-            let f : fits (wordsOf 38 b) ≡ true = ap fits (sym (record-words b w ew)) ∙ sym ev ∙ was-true v lv in
+            let f : fits (wordsOf 38 b) ≡ true = ap fits (sym (record-words b w ew)) ∙ sym ev ∙ not-no v lv in
             let g : stateAt (wordsOf 38 b) ≡ s = ap stateAt (sym (record-words b w ew)) ∙ sym es in
-            rw (← ex, was-true x lx, ← ey, was-true y ly, f, g, ← ee, ← el)
+            rw (← ex, not-no x lx, ← ey, not-no y ly, f, g, ← ee, ← el)
 
         -- the count is a byte
         pub count-fits : a .sent < 256

@@ -13,14 +13,14 @@ use borrow.Author.Tests.{eq-eqb, ne-eqb}
 use Rattle.base.specs.Choice.{pick, both, either, upd, upd₂}
 use Rattle.base.specs.Quorum.{Set}
 use Rattle.base.specs.declared.Sizes.{Sizes}
-use Rattle.base.proofs.Choice.{eq-or, either-left, upd-at, upd-same, upd-other, upd₂-same, upd₂-other, upd₂-row}
+use Rattle.base.proofs.Choice.{eq-or, either-left, upd-at, upd-same, upd-other, upd₂-same, upd₂-other, upd₂-row, both-right}
 use Rattle.rules.specs.Message.{Msg, Send, formed}
 use Rattle.rules.specs.Server.{Server}
 use Rattle.rules.specs.Tree.{taken, toAll}
 use Rattle.rules.specs.Step.{receive}
 use Rattle.rules.specs.Cluster.{Cluster, Channels, D, post, Outcome, event, after, isDone}
 use Rattle.calm.specs.Calm.{Crew}
-use Rattle.calm.proofs.Laws.{over, pick-nil, both-right, Runs, to, post-at, each, to-each, to-set}
+use Rattle.calm.proofs.Laws.{over, pick-nil, Runs, to, post-at, each, to-each, to-set}
 use Rattle.calm.proofs.Effect.{delivered}
 
 -- who takes part: the servers q, led by x, in a cluster where `still` waits in the channels that have no part in it

@@ -27,11 +27,6 @@ unfolding pick
 pick-nil true = refl
 pick-nil false = refl
 
-pub both-right : (t : Bool) → both t true ≡ t
-unfolding both
-both-right true = refl
-both-right false = refl
-
 module _ {P A : Type 0} (g : P → A) (l : ℕ → P) where
   pub over-upd : (f : ℕ) (p : P) → over g (upd l f p) ≡ upd (over g l) f (g p)
   unfolding over upd pick

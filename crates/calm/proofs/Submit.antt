@@ -13,7 +13,7 @@ use Rattle.base.specs.Quorum.{Set, nobody, quorum, size}
 use Rattle.base.specs.Transaction.{Hist, LAST, ident, lastId, nextCounter}
 use Rattle.base.specs.declared.Txn.{Txn}
 use Rattle.base.specs.declared.Sizes.{Sizes}
-use Rattle.base.proofs.Choice.{passes, clash, eq-or, upd-at, upd-same, upd-other, both-no, either-left, either-right}
+use Rattle.base.proofs.Choice.{passes, clash, eq-or, upd-at, upd-same, upd-other, both-no, either-left, either-right, both-right}
 use Rattle.base.proofs.Quorum.{quorum-alone}
 use Rattle.rules.specs.Message.{Msg, propose, ack, commit, formed}
 use Rattle.rules.specs.Server.{Server, F4, L4, idle}
@@ -22,7 +22,7 @@ use Rattle.rules.specs.Tree.{taken, toAll}
 use Rattle.rules.specs.Step.{step, submit, receive, onPropose, onCommit, onAck, onSubmit, submission, l4Advance, advanced, advance, holders}
 use Rattle.rules.specs.Cluster.{Cluster, Event, D, S, post, event, done, after, isDone}
 use Rattle.calm.specs.Calm.{Crew, Lively, full, Ready, Established, Round, submitted-entry}
-use Rattle.calm.proofs.Laws.{over, sole, pick-nil, over-upd, over-same, over-over, both-right, Runs, pass, leaf, gated, each, to-set, post-at}
+use Rattle.calm.proofs.Laws.{over, sole, pick-nil, over-upd, over-same, over-over, Runs, pass, leaf, gated, each, to-set, post-at}
 use Rattle.calm.proofs.Effect.{next, submitted}
 use Rattle.calm.proofs.Engine.{Scene, Sys, total, Calm, Step, Kept, cell-to, cell-from, to-follower, reply, announce, want-short}
 use Rattle.calm.proofs.Play.{Sure, Plays, none, all-counted, nothing, exists}

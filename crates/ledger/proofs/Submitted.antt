@@ -1,4 +1,5 @@
 -- What lies in a log past its initial history was submitted exactly once; so was what is delivered.
+use Rattle.base.proofs.Entry.{same-true, same-self}
 use Prim.Native.Nat.{ℕ, suc, _+_, _-_, _≤_, _<_}
 use mathlib.Core.Path.{_≡_, refl, sym, ap, _∙_}
 use mathlib.Core.Bool.{Bool, true, false}
@@ -9,12 +10,12 @@ use lib.ListN.{length, take, getD, length-take, length-drop, length-map, List·g
 use lib.Seq.{take-take, getD-take, getD-drop}
 use Rattle.base.specs.Choice.{pick}
 use Rattle.base.specs.Transaction.{Hist, none, ident, idAt}
-use Rattle.base.specs.Record.{Rec, E, B, «V», X, Entry, entry}
+use Rattle.base.specs.Record.{Rec, E, B, «V», X, Entry, entry, same}
 use Rattle.base.proofs.History.{agree-low}
 use Rattle.rules.specs.Cluster.{Cluster}
 use Rattle.base.proofs.Choice.{tests, passes, case, both-true, both-yes}
 use Rattle.ledger.specs.Delivered.{deliveredOf}
-use Rattle.ledger.specs.Records.{count, isB, numbered, same, Submitted, gather, begunBy, begunIn}
+use Rattle.ledger.specs.Records.{count, isB, numbered, Submitted, gather, begunBy, begunIn}
 use Rattle.ledger.proofs.Ghost.{Ghost, Good, Origin, own}
 use Rattle.ledger.proofs.Candidate.{committed-in}
 use Rattle.ledger.proofs.Grow.{origin-as}
@@ -43,17 +44,12 @@ numbered-is : (t u : Entry) → numbered t u ≡ true → (u .ep ≡ t .ep) × (
 unfolding numbered
 numbered-is t u e = let w = both-true (eqb (u .ep) (t .ep)) (eqb (u .ct) (t .ct)) e in (omega (tests, w .0), omega (tests, w .1))
 
-same-numbered : (t u : Entry) → same t u ≡ true → numbered t u ≡ true
-unfolding same
-same-numbered t u e = both-true (numbered t u) (eqb (u .vl) (t .vl)) e .0
-
 numbered-self : (t : Entry) → numbered t t ≡ true
 unfolding numbered
 numbered-self t = both-yes (eqb (t .ep) (t .ep)) (eqb (t .ct) (t .ct)) (omega passes) (omega passes)
 
-same-self : (t : Entry) → same t t ≡ true
-unfolding same
-same-self t = both-yes (numbered t t) (eqb (t .vl) (t .vl)) (numbered-self t) (omega passes)
+same-numbered : (t u : Entry) → same t u ≡ true → numbered t u ≡ true
+same-numbered t u e = let x = same-true t u e in rw x (numbered-self u)
 
 -- ---- one epoch
 

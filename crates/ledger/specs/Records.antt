@@ -6,7 +6,7 @@ use mathlib.Core.Bool.{Bool, false}
 use mathlib.Core.List.{List, [], _∷_, _++_}
 use lib.Dec.{eqb}
 use Rattle.base.specs.Choice.{pick, both}
-use Rattle.base.specs.Record.{Rec, E, B, «V», X, Entry}
+use Rattle.base.specs.Record.{Rec, E, B, «V», X, Entry, same}
 
 -- how many elements of a list pass a test
 unfoldable pub count : {A : Type 0} → (A → Bool) → List A → ℕ
@@ -30,10 +30,6 @@ isB f (X line k) = false
 -- the epoch and counter of t
 unfoldable pub numbered : Entry → Entry → Bool
 numbered t u = both (eqb (u .ep) (t .ep)) (eqb (u .ct) (t .ct))
-
--- and its value
-unfoldable pub same : Entry → Entry → Bool
-same t u = both (numbered t u) (eqb (u .vl) (t .vl))
 
 -- what each record of a trace adds, in order
 unfoldable pub gather : (Rec → List Entry) → List Rec → List Entry

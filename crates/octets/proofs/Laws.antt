@@ -1,7 +1,7 @@
 -- Laws of the loops between bytes and words, and of the record in words.
 use Prim.Native.Nat.{ℕ, zero, suc, _+_, _-_, _*_, _≤_, _<_}
 use mathlib.Core.Path.{_≡_, refl, sym, ap, _∙_}
-use mathlib.Core.Bool.{Bool, true, false, not}
+use mathlib.Core.Bool.{Bool, true, false}
 use mathlib.Core.List.{List, [], _∷_, _++_, append-assoc, append-nil}
 use native.Mathlib.Omega.{arith}
 use native.Mathlib.Numerals.{add-one}
@@ -237,7 +237,3 @@ module _ (w : List ℕ) (l : length w ≡ 38) (f : fits w ≡ true) where
 
   pub counts-fit : under LAST (seven 31 w) ≡ true
   counts-fit = parts .1 .1 .1
-
-pub was-true : (b : Bool) → not b ≡ false → b ≡ true
-was-true true e = refl
-was-true false e = sym e

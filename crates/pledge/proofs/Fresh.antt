@@ -12,7 +12,7 @@ use lib.Seq.{length-take-le}
 use borrow.Author.Tests.{lt-ltb}
 use Rattle.base.specs.Choice.{pick, both}
 use Rattle.base.specs.Transaction.{Hist, lastId, idAt, none}
-use Rattle.base.specs.Record.{E, «V», Entry, entry}
+use Rattle.base.specs.Record.{E, «V», Entry, entry, same}
 use Rattle.base.specs.declared.Txn.{Txn}
 use Rattle.base.specs.declared.Sizes.{Sizes}
 use Rattle.base.proofs.Choice.{le-or-lt, clash}
@@ -23,7 +23,7 @@ use Rattle.rules.specs.Cluster.{Cluster, Channels, Event, O, R, D, S, Outcome, 
 use Rattle.rules.specs.Message.{Msg}
 use Rattle.rules.proofs.Trees.{All, all-append}
 use Rattle.ledger.specs.Delivered.{deliveredOf}
-use Rattle.ledger.specs.Records.{count, isB, same}
+use Rattle.ledger.specs.Records.{count, isB}
 use Rattle.ledger.proofs.Lists.{count-append}
 use Rattle.ledger.proofs.Kept.{play-append}
 use Rattle.ledger.proofs.SubmittedOnce.{submitted-once}

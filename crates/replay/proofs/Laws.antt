@@ -1,16 +1,12 @@
 -- Bounds of the parts that the program lends.
-use Prim.Native.Nat.{ℕ, _+_, _-_, _*_, _≤_}
+use Prim.Native.Nat.{ℕ, _+_, _-_, _≤_}
 use mathlib.Core.Path.{_≡_, ap, _∙_}
 use mathlib.Core.List.{List}
 use native.Mathlib.Omega.{arith}
 use lib.ListN.{length, drop, length-append}
 use Rattle.rules.specs.Words.{put}
-use Rattle.ring.proofs.Laws.{times}
 use Rattle.script.specs.Text.{Wrote}
 use Rattle.replay.specs.Lent.{Lent, Reading}
-
-pub square : (k : ℕ) → k ≤ 7 → k * k ≤ 49
-square k l = times k k 7 7 l l
 
 -- what was written lies in what it was written to
 pub wrote-in : (b ws b′ : List ℕ) (r : ℕ) → Wrote b 0 ws r b′ → r ≤ length b′

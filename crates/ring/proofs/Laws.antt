@@ -77,14 +77,14 @@ rings-of depth r f = all-of 49 (goodRing depth r) (λ c l. let p = f c l in both
 pub ring-not : (depth : ℕ) (r : Rings) (c : ℕ) → c < 49 → (head r c < depth → count r c ≤ depth → ⊥) → false ≡ goodRings depth r
 ring-not depth r c l n = case (goodRings depth r) (λ (g : goodRings depth r ≡ true). let p = ring-at depth r c g l in absurd (n (p .0) (p .1))) (λ (g : goodRings depth r ≡ false). sym g)
 
+pub square : (n : ℕ) → n ≤ 7 → n * n ≤ 49
+square n p = let x : n * n ≤ n * 7 = mul-le-mul-left n p in omega arith
+
 pub cell-low : (z : Sizes) (f t : ℕ) → z .n ≤ 7 → Chan z f t → (cell (z .n) f t < z .n * z .n) × (cell (z .n) f t < 49)
 cell-low z f t h k =
     let a : cell (z .n) f t < z .n * z .n = row-in (z .n) f t (z .n) (k .receiver) (k .sender) in
     let b : z .n * z .n ≤ 49 = square (z .n) h in
     (a, omega arith)
-  where
-    square : (n : ℕ) → n ≤ 7 → n * n ≤ 49
-    square n p = let x : n * n ≤ n * 7 = mul-le-mul-left n p in omega arith
 
 -- a slot of a ring has its words in the queue
 pub slot-in : (z : Sizes) (depth c k : ℕ) → c < z .n * z .n → k < depth → msgSize (z .room .0) * (depth * c + k) + msgSize (z .room .0) ≤ queueSize z depth

@@ -10,7 +10,7 @@ use borrow.Author.Tests.{le-leb, lt-leb, lt-ltb, le-ltb, eq-eqb, ne-eqb}
 use Rattle.base.specs.Choice.{both, either, allBelow}
 use Rattle.base.specs.Transaction.{Hist, LAST, rising, goodHist}
 use Rattle.base.specs.declared.Sizes.{Sizes}
-use Rattle.base.proofs.Choice.{clash, eq-cases, both-no}
+use Rattle.base.proofs.Choice.{eq-cases, both-no, both-right, not-no, not-is}
 use Rattle.rules.specs.declared.State.{State}
 use Rattle.rules.specs.Server.{goodSizes, during, goodDur, goodOracle, goodCounts, goodLargest, goodCandidate}
 use Rattle.rules.specs.Words.{has, num, txns, goodWords}
@@ -20,22 +20,14 @@ use Rattle.sound.specs.Parts.{durOf, volOf, another, ifThen, countFits, 
 
 -- ---- chains
 
-unnot : (b : Bool) → not b ≡ false → b ≡ true
-unnot true e = refl
-unnot false e = clash refl e
-
-renot : (b : Bool) → not b ≡ true → b ≡ false
-renot true e = clash e refl
-renot false e = refl
-
 -- a test that failed, and one that passed
 pub fails : (b x y : Bool) → b ≡ x → not b ≡ true → false ≡ both x y
 unfolding both
-fails b x y q f = rw (← q, renot b f)
+fails b x y q f = rw (← q, not-is b f)
 
 pub passes : (b x y r : Bool) → b ≡ x → not b ≡ false → r ≡ y → r ≡ both x y
 unfolding both
-passes b x y r q f e = rw (← q, unnot b f) e
+passes b x y r q f e = rw (← q, not-no b f) e
 
 -- ---- loops
 
@@ -122,11 +114,6 @@ module _ (z : Sizes) (st len : ℕ) (q : List ℕ) (live : Bool) (i : ℕ) (l : 
 
 -- ---- clauses
 
-both-right : (x : Bool) → both x true ≡ x
-unfolding both
-both-right true = refl
-both-right false = refl
-
 pub low-fails : (i n : ℕ) (y : Bool) → n ≤ i → false ≡ both (ltb i n) y
 unfolding both
 low-fails i n y h = rw (le-ltb i n h)
@@ -203,12 +190,12 @@ module _ (z : Sizes) (st p a n : ℕ) (c : List ℕ) (b d : ℕ) (w : Hist) (j k
 -- ---- the whole
 
 pub sizes-room : (z : Sizes) (b : Bool) → b ≡ goodSizes z → not b ≡ false → z .room .0 ≤ 64
-sizes-room z b q f = sized z (sym q ∙ unnot b f) .room
+sizes-room z b q f = sized z (sym q ∙ not-no b f) .room
 
 pub lent : (z : Sizes) (s : State) (h k : List ℕ) (b t u : Bool) → b ≡ goodSizes z → not b ≡ false → t ≡ goodWords (z .room .0) (s .len .0) h → not t ≡ false
     → u ≡ goodWords (z .room .0) (s .«cand_len» .0) k → not u ≡ false → Lent z s h k
 lent z s h k b t u q f r g y i =
-    let x = sized z (sym q ∙ unnot b f) in
-    let v = words-good (z .room .0) (s .len .0) h (sym r ∙ unnot t g) in
-    let w = words-good (z .room .0) (s .«cand_len» .0) k (sym y ∙ unnot u i) in
+    let x = sized z (sym q ∙ not-no b f) in
+    let v = words-good (z .room .0) (s .len .0) h (sym r ∙ not-no t g) in
+    let w = words-good (z .room .0) (s .«cand_len» .0) k (sym y ∙ not-no u i) in
     record { most = x .seven; len = v .1; cand = w .1; hist = omega (arith, v .0, v .1); words = omega (arith, w .0, w .1) }

@@ -1,4 +1,5 @@
 -- Tests joined, transactions compared, lists with one more.
+use Rattle.base.proofs.Entry.{same-true, same-self}
 use Prim.Native.Nat.{ℕ, suc, _≤_, _<_}
 use mathlib.Core.Path.{_≡_, refl, sym, _∙_}
 use mathlib.Core.Bool.{Bool, true, false}
@@ -9,15 +10,10 @@ use lib.ListN.{length, getD, length-append, List·getD-append}
 use lib.Seq.{getD-at}
 use borrow.Author.Tests.{eqb-true, ltb-true, eq-eqb, lt-ltb, le-ltb}
 use Rattle.base.specs.Choice.{pick, both, either}
-use Rattle.base.specs.Record.{Entry, «V»}
+use Rattle.base.specs.Record.{Entry, «V», same}
 use Rattle.base.proofs.Choice.{tests, case, clash, both-true}
-use Rattle.trace.specs.Rules.{Past, same, less, vs}
+use Rattle.trace.specs.Rules.{Past, less, vs}
 use Rattle.trace.specs.Fold.{none}
-
-pub and-true : (b : Bool) → both b true ≡ b
-unfolding both
-and-true true = refl
-and-true false = refl
 
 pub or-false : (b : Bool) → either b false ≡ b
 unfolding either
@@ -30,20 +26,6 @@ either-comm true true = refl
 either-comm true false = refl
 either-comm false true = refl
 either-comm false false = refl
-
-pub same-true : (a b : Entry) → same a b ≡ true → a ≡ b
-unfolding same
-same-true a b e =
-    let x = both-true (eqb (a .ep) (b .ep)) _ e in
-    let y = both-true (eqb (a .ct) (b .ct)) _ (x .1) in
-    let p : a .ep ≡ b .ep = eqb-true _ _ (x .0) in
-    let q : a .ct ≡ b .ct = eqb-true _ _ (y .0) in
-    let r : a .vl ≡ b .vl = eqb-true _ _ (y .1) in
-    λ i. record { ep = p i; ct = q i; vl = r i }
-
-pub same-self : (a : Entry) → same a a ≡ true
-unfolding same both
-same-self a = rw (eq-eqb (a .ep) (a .ep) refl, eq-eqb (a .ct) (a .ct) refl, eq-eqb (a .vl) (a .vl) refl)
 
 pub same-comm : (a b : Entry) → same a b ≡ same b a
 same-comm a b = case (same a b) (λ p. let q = same-true a b p in rw (q, same-self b)) (λ p. case (same b a) (λ r. let q = same-true b a r in rw q) (λ r. p ∙ sym r))

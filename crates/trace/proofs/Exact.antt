@@ -7,9 +7,9 @@ use native.Mathlib.Omega.{arith}
 use lib.Dec.{eqb}
 use borrow.Author.Tests.{eqb-false, eq-eqb, ne-eqb}
 use Rattle.base.specs.Choice.{pick, both, either, upd}
-use Rattle.base.specs.Record.{Entry, E, B, «V», X}
+use Rattle.base.specs.Record.{Entry, E, B, «V», X, same}
 use Rattle.base.proofs.Choice.{tests, case, eq-cases, both-true, either-false, not-is}
-use Rattle.trace.specs.Rules.{Past, same, each, anyE, new1, hasE, countB, anyB, lastV}
+use Rattle.trace.specs.Rules.{Past, each, anyE, new1, hasE, countB, anyB, lastV}
 use Rattle.trace.specs.Fold.{mem, stOf}
 use Rattle.trace.proofs.Base.{or-false}
 

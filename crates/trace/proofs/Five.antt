@@ -1,4 +1,5 @@
 -- Rule 5 over a past: what one more record does.
+use Rattle.base.proofs.Entry.{same-true, same-self}
 use Prim.Native.Nat.{ℕ}
 use mathlib.Core.Path.{_≡_, refl, sym, ap, _∙_}
 use mathlib.Core.Bool.{Bool, true, false}
@@ -7,12 +8,12 @@ use native.Mathlib.Omega.{arith}
 use lib.Dec.{eqb, leb}
 use borrow.Author.Tests.{le-leb, lt-leb}
 use Rattle.base.specs.Choice.{pick, both, either}
-use Rattle.base.specs.Record.{Entry, E, B, «V», X}
-use Rattle.base.proofs.Choice.{tests, case, clash, both-true, both-yes, either-right, either-false}
-use Rattle.trace.specs.Rules.{Past, same, hasV, had, eachV, eachB, rule5}
+use Rattle.base.specs.Record.{Entry, E, B, «V», X, same}
+use Rattle.base.proofs.Choice.{tests, case, clash, both-true, both-yes, either-right, either-false, both-right}
+use Rattle.trace.specs.Rules.{Past, hasV, had, eachV, eachB, rule5}
 use Rattle.trace.specs.Fold.{stOf}
 use Rattle.trace.specs.Held.{anyV}
-use Rattle.trace.proofs.Base.{same-true, same-self, and-true, or-false}
+use Rattle.trace.proofs.Base.{or-false}
 
 module _ (f : Entry → Bool) where
   pub eachV-at : (p : Past) (t : Entry) → eachV f p ≡ true → anyV t p ≡ true → f t ≡ true
@@ -63,7 +64,7 @@ late t p = eachB (λ x b q. had x (b .ep) q t) p
 
 pub five-V : (p : Past) (s : ℕ) (t : Entry) → rule5 p ≡ true → rule5 («V» s t ∷ p) ≡ late t p
 unfolding both
-five-V p s t h = eachB-both (λ x b q. had x (b .ep) q t) (λ x b q. eachV (had x (b .ep) q) p) p ∙ rw h (and-true (late t p))
+five-V p s t h = eachB-both (λ x b q. had x (b .ep) q t) (λ x b q. eachV (had x (b .ep) q) p) p ∙ rw h (both-right (late t p))
 
 -- t was delivered before
 pub late-old : (p : Past) (t : Entry) → rule5 p ≡ true → anyV t p ≡ true → late t p ≡ true

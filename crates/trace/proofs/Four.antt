@@ -1,4 +1,5 @@
 -- Rule 4 and the one longest sequence.
+use Rattle.base.proofs.Entry.{same-true, same-self}
 use Prim.Native.Nat.{ℕ, zero, suc, _≤_, _<_}
 use mathlib.Core.Path.{_≡_, refl, sym, _∙_}
 use mathlib.Core.Bool.{Bool, true, false}
@@ -8,11 +9,11 @@ use lib.Dec.{eqb, leb}
 use lib.ListN.{length, take, getD}
 use borrow.Author.Tests.{eqb-true, leb-true}
 use Rattle.base.specs.Choice.{pick, both, either, allBelow}
-use Rattle.base.specs.Record.{Entry, E, B, «V», X}
+use Rattle.base.specs.Record.{Entry, E, B, «V», X, same}
 use Rattle.base.proofs.Choice.{tests, case, clash, both-no, either-right, all-of}
-use Rattle.trace.specs.Rules.{Past, same, vs, begins, rule4, hasV}
+use Rattle.trace.specs.Rules.{Past, vs, begins, rule4, hasV}
 use Rattle.trace.specs.Fold.{none, mem}
-use Rattle.trace.proofs.Base.{same-true, same-self, same-comm}
+use Rattle.trace.proofs.Base.{same-comm}
 
 abbrev pub Seq : Type 0
 Seq = List Entry

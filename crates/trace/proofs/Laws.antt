@@ -1,4 +1,5 @@
 -- One law for each answer of a record's step.
+use Rattle.base.proofs.Entry.{same-true}
 use Prim.Native.Nat.{ℕ, zero, suc, _+_, _-_, _≤_, _<_}
 use mathlib.Core.Path.{_≡_, refl, sym, ap, _∙_, subst}
 use mathlib.Core.Bool.{Bool, true, false, not}
@@ -9,16 +10,15 @@ use lib.ListN.{length, take, drop, getD, set, length-append, length-map, length-
 use lib.Seq.{getD-take, getD-set-same, getD-set-other, take-suc-set, set-split}
 use borrow.Author.Tests.{eqb-false, eq-eqb, ne-eqb, le-leb, lt-leb, lt-ltb, le-ltb, leb-true}
 use Rattle.base.specs.Choice.{pick, both, either, upd}
-use Rattle.base.specs.Record.{Entry, Rec, E, B, «V», X}
+use Rattle.base.specs.Record.{Entry, Rec, E, B, «V», X, same}
 use Rattle.base.proofs.Choice.{tests, case, clash, eq-cases, both-true}
-use Rattle.trace.specs.Rules.{same, less, anyE, rule1, rule2, hasE, countB, anyB, vs, lowest, broken, sound}
+use Rattle.trace.specs.Rules.{less, anyE, rule1, rule2, hasE, countB, anyB, vs, lowest, broken, sound}
 use Rattle.trace.specs.Fold.{none, mem, stOf}
 use Rattle.trace.specs.Held.{anyV}
 use Rattle.trace.specs.Words.{kindOf, whoOf, epochAt, counterAt, entryAt, recAt, pastAt, grown, laid, latestOf}
 use Rattle.trace.specs.Step.{Holds, Stepped, Source, insideOf, lateOf}
 use Rattle.trace.specs.declared.step.State.{State}
 use Rattle.trace.specs.declared.step.Told.{Told}
-use Rattle.trace.proofs.Base.{same-true}
 use Rattle.trace.proofs.Exact.{last-is, has-any}
 use Rattle.trace.proofs.Four.{at-in}
 use Rattle.trace.proofs.Main.{step-inv}
@@ -152,6 +152,10 @@ module _ (n : ℕ) (w sp : List ℕ) (i : ℕ) (s : State) (H : Holds n (pastAt 
   seq-is : map (entryAt w) (take (s .len) sp) ≡ stOf (pastAt w i) .seq
   seq-is = ap (map (entryAt w)) (H .laid) ∙ grown-is w i
 
+  -- how many server x has delivered
+  counted : {x : ℕ} → x ≡ whoOf w i → x < 7 → stOf (pastAt w i) .cnt (whoOf w i) ≡ getD (s .counts) x 0
+  counted {x} ex x7 = ap (stOf (pastAt w i) .cnt) (sym ex) ∙ sym (H .cnt x x7)
+
   -- ---- B
 
   module _ (q : kindOf w i ≡ 2) {b : Bool}
@@ -171,12 +175,9 @@ module _ (n : ℕ) (w sp : List ℕ) (i : ℕ) (s : State) (H : Holds n (pastAt 
 
     module _ {x : ℕ} {l : Bool} (yes-b : b ≡ true) (ex : x ≡ whoOf w i) (x7 : x < 7)
         (el : l ≡ both (ltb (getD (s .counts) x 0) (s .len)) (ltb (epochAt w (getD sp (getD (s .counts) x 0) 0)) (epochAt w i))) where
-      b-count : stOf (pastAt w i) .cnt (whoOf w i) ≡ getD (s .counts) x 0
-      b-count = ap (stOf (pastAt w i) .cnt) (sym ex) ∙ sym (H .cnt x x7)
-
       five : either (leb (length (stOf (pastAt w i) .seq)) (stOf (pastAt w i) .cnt (whoOf w i))) (leb (epochAt w i) (getD (stOf (pastAt w i) .seq) (stOf (pastAt w i) .cnt (whoOf w i)) none .ep)) ≡ not l
       unfolding either both
-      five = rw (seq-len, b-count, el) (case (ltb (getD (s .counts) x 0) (s .len))
+      five = rw (seq-len, counted ex x7, el) (case (ltb (getD (s .counts) x 0) (s .len))
           (λ u. rw (u, lt-leb (s .len) (getD (s .counts) x 0) (omega tests), seq-at (getD (s .counts) x 0) (omega tests)) (flip (epochAt w i) (epochAt w (getD sp (getD (s .counts) x 0) 0))))
           (λ u. rw (u, le-leb (s .len) (getD (s .counts) x 0) (omega tests))))
         where
@@ -220,9 +221,6 @@ module _ (n : ℕ) (w sp : List ℕ) (i : ℕ) (s : State) (H : Holds n (pastAt 
     v-told : broken n (recAt w i ∷ pastAt w i) ≡ broken n («V» (whoOf w i) (entryAt w i) ∷ pastAt w i)
     v-told = ap (λ (r : Rec). broken n (r ∷ pastAt w i)) (rec-v w i q)
 
-    v-count : stOf (pastAt w i) .cnt (whoOf w i) ≡ getD (s .counts) x 0
-    v-count = ap (stOf (pastAt w i) .cnt) (sym ex) ∙ sym (H .cnt x x7)
-
     v-epoch : 1 ≤ epochAt w i
     v-epoch = leb-true 1 (epochAt w i) (both-true (leb 1 (epochAt w i)) (leb 1 (counterAt w i)) (both-true (ltb (whoOf w i) n) _ v-sound .1) .0)
 
@@ -230,25 +228,25 @@ module _ (n : ℕ) (w sp : List ℕ) (i : ℕ) (s : State) (H : Holds n (pastAt 
         ≡ lowest true true (anyB (entryAt w i) (pastAt w i)) (either (leb (s .len) (getD (s .counts) x 0)) (same (entryAt w i) (getD (stOf (pastAt w i) .seq) (getD (s .counts) x 0) none)))
         (either (ltb (getD (s .counts) x 0) (s .len)) (either (leb (s .top) (epochAt w i)) (both (not (less (stOf (pastAt w i) .last (whoOf w i)) (entryAt w i))) (mem (entryAt w i) (stOf (pastAt w i) .seq)))))
         (less (stOf (pastAt w i) .last (whoOf w i)) (entryAt w i))
-    v-rule = judge-v n (pastAt w i) (H .inv) (whoOf w i) (entryAt w i) v-sound ∙ rw (seq-len, v-count, ← H .top)
+    v-rule = judge-v n (pastAt w i) (H .inv) (whoOf w i) (entryAt w i) v-sound ∙ rw (seq-len, counted ex x7, ← H .top)
 
     -- before any V of the server, its last is below every transaction
     v-first : getD (s .counts) x 0 ≡ 0 → less (stOf (pastAt w i) .last (whoOf w i)) (entryAt w i) ≡ true
     v-first z =
-        ap (λ (u : Entry). less u (entryAt w i)) (last-is (pastAt w i) (whoOf w i) ∙ last-none (pastAt w i) (whoOf w i) (sym (cnt-is (pastAt w i) (whoOf w i)) ∙ v-count ∙ z)) ∙ less-none (entryAt w i) v-epoch
+        ap (λ (u : Entry). less u (entryAt w i)) (last-is (pastAt w i) (whoOf w i) ∙ last-none (pastAt w i) (whoOf w i) (sym (cnt-is (pastAt w i) (whoOf w i)) ∙ counted ex x7 ∙ z)) ∙ less-none (entryAt w i) v-epoch
 
     v-last : (k : ℕ) → getD (s .counts) x 0 ≡ suc k → stOf (pastAt w i) .last (whoOf w i) ≡ getD (stOf (pastAt w i) .seq) k none
-    v-last k z = H .inv .seqs .last (whoOf w i) k (v-count ∙ z)
+    v-last k z = H .inv .seqs .last (whoOf w i) k (counted ex x7 ∙ z)
 
     -- the counts after it
     v-cnt : (y : ℕ) → y < 7 → getD (set (s .counts) x (getD (s .counts) x 0 + 1)) y 0 ≡ upd (stOf (pastAt w i) .cnt) (whoOf w i) (suc (stOf (pastAt w i) .cnt (whoOf w i))) y
     unfolding upd pick
     v-cnt y h = eq-cases (λ (b : Bool). getD (set (s .counts) x (getD (s .counts) x 0 + 1)) y 0 ≡ pick b (suc (stOf (pastAt w i) .cnt (whoOf w i))) (stOf (pastAt w i) .cnt y)) y (whoOf w i)
-        (λ e. let d : y ≡ x = e ∙ sym ex in rw (d, getD-set-same (s .counts) x (getD (s .counts) x 0 + 1) 0 (omega (arith, H .size))) (omega (arith, v-count)))
+        (λ e. let d : y ≡ x = e ∙ sym ex in rw (d, getD-set-same (s .counts) x (getD (s .counts) x 0 + 1) 0 (omega (arith, H .size))) (omega (arith, (counted ex x7))))
         (λ e. getD-set-other (s .counts) x y (getD (s .counts) x 0 + 1) 0 (λ d. e (d ∙ ex)) ∙ H .cnt y h)
 
     vs-count : length (vs (whoOf w i) (pastAt w i)) ≡ getD (s .counts) x 0
-    vs-count = sym (cnt-is (pastAt w i) (whoOf w i)) ∙ v-count
+    vs-count = sym (cnt-is (pastAt w i) (whoOf w i)) ∙ counted ex x7
 
     -- inside the longest
     module _ (low : getD (s .counts) x 0 < s .len) where
@@ -303,7 +301,7 @@ module _ (n : ℕ) (w sp : List ℕ) (i : ℕ) (s : State) (H : Holds n (pastAt 
     -- one that makes the longest longer
     module _ (full : s .len ≤ getD (s .counts) x 0) {k : ℕ} (src : Source w i k) where
       whole : getD (s .counts) x 0 ≡ s .len
-      whole = omega (arith, H .inv .seqs .len (whoOf w i), v-count, seq-len)
+      whole = omega (arith, H .inv .seqs .len (whoOf w i), counted ex x7, seq-len)
 
       pub v-three : k ≡ i → Stepped n w sp i (record { rule = 3; state = s }) sp
       v-three z = stop 3 (sym (v-told ∙ v-rule ∙ rw (sym (src .is) ∙ le-ltb k i (omega arith)))) (λ d. omega arith)

@@ -8,8 +8,8 @@ use lib.Dec.{eqb, ltb}
 use lib.ListN.{getD}
 use borrow.Author.Tests.{eq-eqb, ne-eqb, lt-ltb, le-ltb}
 use Rattle.base.specs.Choice.{pick, both, either}
-use Rattle.base.specs.Record.{Entry}
-use Rattle.trace.specs.Rules.{same, less}
+use Rattle.base.specs.Record.{Entry, same}
+use Rattle.trace.specs.Rules.{less}
 use Rattle.trace.specs.Words.{Within, kindOf, entryAt, ofEpoch, latestOf, submits, seekOf}
 
 -- ---- transactions compared

@@ -1,4 +1,5 @@
 -- The fold gives the definition's answer.
+use Rattle.base.proofs.Entry.{same-true}
 use Prim.Native.Nat.{ℕ, suc}
 use mathlib.Core.Path.{_≡_, refl, sym, ap, _∙_, subst}
 use mathlib.Core.Bool.{Bool, true, false, not}
@@ -8,12 +9,11 @@ use lib.Dec.{eqb, leb, ltb}
 use lib.ListN.{length, getD}
 use borrow.Author.Tests.{eqb-true, leb-true, leb-false, ltb-true}
 use Rattle.base.specs.Choice.{pick, both, either}
-use Rattle.base.specs.Record.{Entry, Rec, E, B, «V», X}
-use Rattle.base.proofs.Choice.{case, both-true, all-of}
-use Rattle.trace.specs.Rules.{Past, same, less, each, new1, rule1, new2, rule2, new3, rule3, rule4, had, eachV, rule5, new6, rule6, lowest, broken, sound, allSound, Answer, breaks, walk, fit, answer}
+use Rattle.base.specs.Record.{Entry, Rec, E, B, «V», X, same}
+use Rattle.base.proofs.Choice.{case, both-true, all-of, both-right}
+use Rattle.trace.specs.Rules.{Past, less, each, new1, rule1, new2, rule2, new3, rule3, rule4, had, eachV, rule5, new6, rule6, lowest, broken, sound, allSound, Answer, breaks, walk, fit, answer}
 use Rattle.trace.specs.Fold.{none, next, t1, t2, t3, t4, t5, t6, test, fast, check, stOf}
 use Rattle.trace.specs.Held.{Seqs, Kept, Inv}
-use Rattle.trace.proofs.Base.{same-true, and-true}
 use Rattle.trace.proofs.Exact.{nxt-is, last-is, bs-is, own-any, own-is}
 use Rattle.trace.proofs.Five.{five-V}
 use Rattle.trace.proofs.Seqs.{five-B, four-V, five-V′, grow-in, grow-ext}
@@ -23,7 +23,7 @@ not-not true = refl
 not-not false = refl
 
 one-more : (f : Rec → Past → Bool) (r : Rec) (p : Past) → each f p ≡ true → each f (r ∷ p) ≡ f r p
-one-more f r p h = rw h (and-true (f r p))
+one-more f r p h = rw h (both-right (f r p))
 
 low-eq : (a₁ a₂ a₃ a₄ a₅ a₆ b₁ b₂ b₃ b₄ b₅ b₆ : Bool) → a₁ ≡ b₁ → a₂ ≡ b₂ → a₃ ≡ b₃ → a₄ ≡ b₄ → (b₄ ≡ true → a₅ ≡ b₅) → a₆ ≡ b₆ → lowest a₁ a₂ a₃ a₄ a₅ a₆ ≡ lowest b₁ b₂ b₃ b₄ b₅ b₆
 low-eq a₁ a₂ a₃ a₄ a₅ a₆ b₁ b₂ b₃ b₄ b₅ b₆ e₁ e₂ e₃ e₄ e₅ e₆ = rw (e₁, e₂, e₃, e₄, e₆) (go b₁ b₂ b₃ b₄ e₅)
@@ -80,7 +80,7 @@ module _ (n : ℕ) (p : Past) (I : Inv n p) where
 
   rule-5 : (r : Rec) → t4 (stOf p) r ≡ true → rule5 (r ∷ p) ≡ t5 (stOf p) r
   rule-5 (E s e) h = I .kept .k5
-  rule-5 (B s t) h = ap (both (eachV (had s (t .ep) p) p)) (I .kept .k5) ∙ and-true (eachV (had s (t .ep) p) p) ∙ five-B n p (stOf p .seq) (stOf p .cnt) (stOf p .last) (I .seqs) s (t .ep)
+  rule-5 (B s t) h = ap (both (eachV (had s (t .ep) p) p)) (I .kept .k5) ∙ both-right (eachV (had s (t .ep) p) p) ∙ five-B n p (stOf p .seq) (stOf p .cnt) (stOf p .last) (I .seqs) s (t .ep)
   rule-5 («V» s t) h = five-V p s t (I .kept .k5) ∙ five-V′ n p (stOf p .seq) (stOf p .cnt) (stOf p .last) (I .seqs) s t (I .kept .k5) h
   rule-5 (X l r) h = I .kept .k5
 

@@ -9,9 +9,9 @@ use lib.ListN.{length, take, getD}
 use lib.Seq.{take-suc}
 use borrow.Author.Tests.{eqb-true, eqb-false, eq-eqb, ne-eqb, le-leb, lt-leb, lt-ltb, le-ltb, ltb-true}
 use Rattle.base.specs.Choice.{pick, both, either}
-use Rattle.base.specs.Record.{Entry, Rec, E, B, «V», X}
+use Rattle.base.specs.Record.{Entry, Rec, E, B, «V», X, same}
 use Rattle.base.proofs.Choice.{tests, case, either-left, either-right}
-use Rattle.trace.specs.Rules.{Past, same, less, anyB, sound, allSound}
+use Rattle.trace.specs.Rules.{Past, less, anyB, sound, allSound}
 use Rattle.trace.specs.Fold.{mem}
 use Rattle.trace.specs.Words.{kindOf, whoOf, epochAt, counterAt, entryAt, recAt, recsFrom, pastAt, knownAt, allKnown, submits, seekOf}
 use Rattle.trace.specs.Step.{Source, lateOf}

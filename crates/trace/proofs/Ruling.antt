@@ -1,4 +1,5 @@
 -- What one more record breaks, while the trace so far breaks nothing; and the latest record of an epoch.
+use Rattle.base.proofs.Entry.{same-true}
 use Prim.Native.Nat.{ℕ, zero, suc, _+_, _≤_, _<_}
 use mathlib.Core.Path.{_≡_, refl, sym, ap, _∙_, subst}
 use mathlib.Core.Bool.{Bool, true, false, not}
@@ -9,13 +10,13 @@ use lib.ListN.{length, getD, length-append, length-map, List·getD-append}
 use lib.Seq.{getD-at}
 use borrow.Author.Tests.{eqb-true, eqb-false, eq-eqb, ne-eqb, lt-ltb}
 use Rattle.base.specs.Choice.{pick, both, either, upd}
-use Rattle.base.specs.Record.{Entry, Rec, E, B, «V», X}
+use Rattle.base.specs.Record.{Entry, Rec, E, B, «V», X, same}
 use Rattle.base.proofs.Choice.{tests, case, clash, eq-cases, both-true, either-false, either-right, not-is}
-use Rattle.trace.specs.Rules.{Past, same, less, anyE, rule1, hasE, countB, rule2, anyB, rule3, vs, lastV, lowest, broken, sound}
+use Rattle.trace.specs.Rules.{Past, less, anyE, rule1, hasE, countB, rule2, anyB, rule3, vs, lastV, lowest, broken, sound}
 use Rattle.trace.specs.Fold.{none, mem, stOf, test}
 use Rattle.trace.specs.Held.{anyV, Inv}
 use Rattle.trace.specs.Words.{kindOf, whoOf, epochAt, counterAt, entryAt, pastAt, grown, ofEpoch, latestOf}
-use Rattle.trace.proofs.Base.{same-true, or-false}
+use Rattle.trace.proofs.Base.{or-false}
 use Rattle.trace.proofs.Exact.{nxt-is, bs-is, own-any, own-is, has-any, suc-eqb}
 use Rattle.trace.proofs.Main.{step-same}
 use Rattle.trace.proofs.Records.{by-kind}

@@ -1,4 +1,5 @@
 -- What the longest sequence and the counts mean while no rule is broken, and the tests of rules 4 and 5.
+use Rattle.base.proofs.Entry.{same-true}
 use Prim.Native.Nat.{ℕ, zero, suc, _≤_, _<_}
 use mathlib.Core.Path.{_≡_, refl, sym, ap, _∙_, subst}
 use mathlib.Core.Logic.{_≢_}
@@ -10,12 +11,12 @@ use lib.ListN.{length, take, getD, length-append}
 use lib.Seq.{take-suc, take-append-le, take-all}
 use borrow.Author.Tests.{eqb-true, leb-true, leb-false, ltb-true, ltb-false, eq-eqb, ne-eqb, le-leb, lt-leb}
 use Rattle.base.specs.Choice.{pick, both, either, upd}
-use Rattle.base.specs.Record.{Entry, «V»}
+use Rattle.base.specs.Record.{Entry, «V», same}
 use Rattle.base.proofs.Choice.{tests, case, clash, eq-cases, either-right}
-use Rattle.trace.specs.Rules.{Past, same, less, vs, rule4, hasV, had, eachV, rule5}
+use Rattle.trace.specs.Rules.{Past, less, vs, rule4, hasV, had, eachV, rule5}
 use Rattle.trace.specs.Fold.{none, mem, stOf}
 use Rattle.trace.specs.Held.{Seqs}
-use Rattle.trace.proofs.Base.{same-true, less-self, less-true, less-trans, less-differs, vs-V, snoc, old-at, new-at}
+use Rattle.trace.proofs.Base.{less-self, less-true, less-trans, less-differs, vs-V, snoc, old-at, new-at}
 use Rattle.trace.proofs.Five.{eachV-all, eachV-no, late, late-old, late-new}
 use Rattle.trace.proofs.Four.{Seq, mem-append, At, mem-at, at-mem, at-in, not-mem, has-is, four-yes, four-no}
 

@@ -7,8 +7,8 @@ use mathlib.Core.List.{[], _∷_}
 use lib.Dec.{leb, ltb}
 use lib.ListN.{length}
 use Rattle.base.specs.Choice.{pick, both, either, upd, allBelow}
-use Rattle.base.specs.Record.{Entry, E, B, «V»}
-use Rattle.trace.specs.Rules.{answer, fit, broken, same, less, breaks}
+use Rattle.base.specs.Record.{Entry, E, B, «V», same}
+use Rattle.trace.specs.Rules.{answer, fit, broken, less, breaks}
 use Rattle.trace.specs.Fold.{St, stOf, t5}
 
 abbrev by-epoch : St → ℕ → Entry → Bool

@@ -9,9 +9,9 @@ use lib.Dec.{eqb}
 use lib.ListN.{length, take}
 use lib.Seq.{take-length}
 use Rattle.base.specs.Choice.{pick, both, either}
-use Rattle.base.specs.Record.{Entry, Rec, E, B, «V», X}
+use Rattle.base.specs.Record.{Entry, Rec, E, B, «V», X, same}
 use Rattle.base.proofs.Choice.{tests, case, both-true, either-left, either-true, all-of, all-at}
-use Rattle.trace.specs.Rules.{Past, same, each, new1, rule1, new2, rule2, new3, rule3, vs, begins, rule4, had, eachV, rule5, new6, rule6, lowest, broken, Answer, keeps, breaks, refuses, walk, fit, answer}
+use Rattle.trace.specs.Rules.{Past, each, new1, rule1, new2, rule2, new3, rule3, vs, begins, rule4, had, eachV, rule5, new6, rule6, lowest, broken, Answer, keeps, breaks, refuses, walk, fit, answer}
 use Rattle.trace.specs.Held.{Kept}
 use Rattle.trace.proofs.Base.{either-comm, same-comm}
 use Rattle.trace.proofs.Four.{Seq}

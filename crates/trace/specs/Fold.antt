@@ -5,8 +5,8 @@ use mathlib.Core.List.{List, [], _∷_, _++_}
 use lib.Dec.{eqb, leb, ltb}
 use lib.ListN.{length, getD}
 use Rattle.base.specs.Choice.{pick, both, either, upd}
-use Rattle.base.specs.Record.{Entry, Rec, E, B, «V», X}
-use Rattle.trace.specs.Rules.{Past, same, less, lowest, Answer, keeps, breaks, refuses, fit}
+use Rattle.base.specs.Record.{Entry, Rec, E, B, «V», X, same}
+use Rattle.trace.specs.Rules.{Past, less, lowest, Answer, keeps, breaks, refuses, fit}
 
 abbrev pub none : Entry
 none = record { ep = 0; ct = 0; vl = 0 }

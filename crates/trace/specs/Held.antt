@@ -5,8 +5,8 @@ use mathlib.Core.Bool.{Bool, true, false}
 use mathlib.Core.List.{List, [], _∷_}
 use lib.ListN.{length, take, getD}
 use Rattle.base.specs.Choice.{either}
-use Rattle.base.specs.Record.{Entry, E, B, «V», X}
-use Rattle.trace.specs.Rules.{Past, same, less, vs, rule1, rule2, rule3, rule4, rule5, rule6}
+use Rattle.base.specs.Record.{Entry, E, B, «V», X, same}
+use Rattle.trace.specs.Rules.{Past, less, vs, rule1, rule2, rule3, rule4, rule5, rule6}
 use Rattle.trace.specs.Fold.{none, mem, stOf}
 
 -- some server has a V of t

@@ -5,15 +5,11 @@ use mathlib.Core.List.{List, [], _∷_, _++_}
 use lib.Dec.{eqb, leb, ltb}
 use lib.ListN.{length}
 use Rattle.base.specs.Choice.{pick, both, either, allBelow}
-use Rattle.base.specs.Record.{Entry, Rec, E, B, «V», X}
+use Rattle.base.specs.Record.{Entry, Rec, E, B, «V», X, same}
 
 -- the trace so far, its newest record first
 abbrev pub Past : Type 0
 Past = List Rec
-
--- equal in epoch, counter and value
-unfoldable pub same : Entry → Entry → Bool
-same a b = both (eqb (a .ep) (b .ep)) (both (eqb (a .ct) (b .ct)) (eqb (a .vl) (b .vl)))
 
 -- is the identifier of a below that of b?
 unfoldable pub less : Entry → Entry → Bool

@@ -6,8 +6,8 @@ use mathlib.Core.List.{List, _∷_, map}
 use lib.Dec.{eqb, leb, ltb}
 use lib.ListN.{length, take, getD, set}
 use Rattle.base.specs.Choice.{pick, both, either}
-use Rattle.base.specs.Record.{B}
-use Rattle.trace.specs.Rules.{Past, same, less, rule1, new2, rule2, anyB, broken, sound}
+use Rattle.base.specs.Record.{B, same}
+use Rattle.trace.specs.Rules.{Past, less, rule1, new2, rule2, anyB, broken, sound}
 use Rattle.trace.specs.Fold.{mem, stOf}
 use Rattle.trace.specs.Held.{Inv}
 use Rattle.trace.specs.Words.{Within, kindOf, whoOf, epochAt, counterAt, entryAt, recAt, pastAt, grown, laid, latestOf}

@@ -5,8 +5,8 @@ use mathlib.Core.List.{List, [], _∷_, _++_}
 use lib.Dec.{eqb, leb}
 use lib.ListN.{length, getD, drop}
 use Rattle.base.specs.Choice.{pick, both, either}
-use Rattle.base.specs.Record.{Entry, Rec, E, B, «V», X}
-use Rattle.trace.specs.Rules.{Past, same, vs}
+use Rattle.base.specs.Record.{Entry, Rec, E, B, «V», X, same}
+use Rattle.trace.specs.Rules.{Past, vs}
 
 -- the words of a record: kind, server (of an X the line), epoch (of an X the refusal), counter, value
 abbrev pub WORDS : ℕ

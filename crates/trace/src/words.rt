@@ -2,7 +2,8 @@
 // the server (of an X the line), word 2 the epoch (of an X the refusal), word 3 the counter, word 4 the value. The words that a
 // kind does not use are not read: the paper's list of malformed records is whole, and says nothing of them.
 ghost use mathlib.Core.Path.{_≡_};
-ghost use Rattle.trace.specs.Rules.{same, less};
+ghost use Rattle.base.specs.Record.{same};
+ghost use Rattle.trace.specs.Rules.{less};
 ghost use Rattle.trace.specs.Words.{Within, kindOf, whoOf, epochAt, counterAt, valueAt, entryAt};
 
 pub const WORDS: usize = 5;

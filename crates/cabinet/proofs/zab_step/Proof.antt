@@ -1,9 +1,9 @@
+use Rattle.base.proofs.Choice.{not-no}
 use Prim.Native.Nat.{_-_}
 use mathlib.Core.Path.{sym, _∙_}
 use native.Mathlib.Omega.{arith}
 use lib.ListN.{length, length-set}
 use denote.Ref.{now}
-use Rattle.octets.proofs.Laws.{was-true}
 use Rattle.cabinet.proofs.Laws.{sized-says, is-lent, bad-size, bad-slot, bad-record, refused, count-fits, done}
 use borrow.Author.Needs.{needs}
 use Rattle.cabinet.proofs.zab_step.Statement.{statement}
@@ -68,7 +68,7 @@ slice-aggregate-read-state c = sym (c .before .before .before .before .before .l
 
 -- src/lib.rt:149:9
 read-state-requires : tie.Need-read-state-requires
-read-state-requires c κs = (c .before .before .before .before .before .load .kept .1 .0, sym (c .before .before .record-fits .ensures) ∙ was-true (c .before .before .record-fits .result) (c .before .if3 .left))
+read-state-requires c κs = (c .before .before .before .before .before .load .kept .1 .0, sym (c .before .before .record-fits .ensures) ∙ not-no (c .before .before .record-fits .result) (c .before .if3 .left))
 
 -- src/lib.rt:151:9
 event-of-requires : tie.Need-event-of-requires

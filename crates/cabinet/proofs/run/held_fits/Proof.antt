@@ -1,8 +1,7 @@
 use Prim.Native.Nat.{_≤_, _<_}
 use mathlib.Core.Path.{_≡_}
 use lib.ListN.{length, getD}
-use Rattle.octets.proofs.Laws.{was-true}
-use Rattle.base.proofs.Choice.{not-is}
+use Rattle.base.proofs.Choice.{not-is, not-no}
 use Rattle.cabinet.proofs.Runs.{unfit-size, unfit-n, unfit-room, unfit-depth, unfit-records, fit-rings}
 use borrow.Author.Needs.{needs}
 use Rattle.cabinet.proofs.run.held_fits.Statement.{statement}
@@ -54,7 +53,7 @@ all-under-requires c κs = search needs
 
 -- src/run.rt:44:1
 returns-6 : tie.Need-returns-6
-returns-6 c = fit-rings (c .before .before .before .before .before .before .before .before .before .before .before .args .held .now) (let z : length (c .before .before .before .before .before .before .before .before .before .before .before .args .held .now) ≡ 369 = search (needs, c .before .before .before .before .before .before .before .before .before .if1) in z) (c .before .before .records-fit .result) (c .all-under .result) (let z : getD (c .before .before .before .before .before .before .before .before .before .before .before .args .held .now) 0 0 ≤ 255 = search (needs, c .before .before .before .before .before .before .before .if2) in z) (let z : getD (c .before .before .before .before .before .before .before .before .before .before .before .args .held .now) 1 0 ≤ 4294967295 = search (needs, c .before .before .before .before .before .if3) in z) (let z : getD (c .before .before .before .before .before .before .before .before .before .before .before .args .held .now) 2 0 ≤ 255 = search (needs, c .before .before .before .if4) in z) (c .before .before .records-fit .ensures) (was-true _ (c .before .if5 .left)) (c .all-under .ensures)
+returns-6 c = fit-rings (c .before .before .before .before .before .before .before .before .before .before .before .args .held .now) (let z : length (c .before .before .before .before .before .before .before .before .before .before .before .args .held .now) ≡ 369 = search (needs, c .before .before .before .before .before .before .before .before .before .if1) in z) (c .before .before .records-fit .result) (c .all-under .result) (let z : getD (c .before .before .before .before .before .before .before .before .before .before .before .args .held .now) 0 0 ≤ 255 = search (needs, c .before .before .before .before .before .before .before .if2) in z) (let z : getD (c .before .before .before .before .before .before .before .before .before .before .before .args .held .now) 1 0 ≤ 4294967295 = search (needs, c .before .before .before .before .before .if3) in z) (let z : getD (c .before .before .before .before .before .before .before .before .before .before .before .args .held .now) 2 0 ≤ 255 = search (needs, c .before .before .before .if4) in z) (c .before .before .records-fit .ensures) (not-no _ (c .before .if5 .left)) (c .all-under .ensures)
 
 pub held-fits-spec : {M : Type 1} → statement M
 held-fits-spec =

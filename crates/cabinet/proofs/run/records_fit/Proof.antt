@@ -1,7 +1,6 @@
 use Prim.Native.Nat.{_-_, _≤_, _<_}
 use native.Mathlib.Omega.{arith}
-use Rattle.octets.proofs.Laws.{was-true}
-use Rattle.base.proofs.Choice.{not-is}
+use Rattle.base.proofs.Choice.{not-is, not-no}
 use Rattle.cabinet.proofs.Runs.{FitTo, records-not, records-on, records-all}
 use borrow.Author.Needs.{needs}
 use Rattle.cabinet.proofs.run.records_fit.Statement.{statement}
@@ -38,7 +37,7 @@ loop-less c = search needs
 
 -- src/run.rt:34:5
 loop-again : tie.Need-loop-again Inv-loop μ-loop
-loop-again c = (search needs, records-on (c .before .before .before .before .before .args .held .now) (c .before .before .before .loop .i) (c .before .record-fits .result) (c .before .before .before .loop .inv .1) (c .before .record-fits .ensures) (was-true _ (c .if1 .left)))
+loop-again c = (search needs, records-on (c .before .before .before .before .before .args .held .now) (c .before .before .before .loop .i) (c .before .record-fits .result) (c .before .before .before .loop .inv .1) (c .before .record-fits .ensures) (not-no _ (c .if1 .left)))
 
 -- src/run.rt:29:1
 returns-2 : tie.Need-returns-2 Inv-loop μ-loop

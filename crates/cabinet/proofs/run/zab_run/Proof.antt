@@ -1,7 +1,6 @@
 use mathlib.Core.Path.{_≡_, sym, _∙_}
 use native.Mathlib.Omega.{arith}
-use Rattle.octets.proofs.Laws.{was-true}
-use Rattle.base.proofs.Choice.{not-is}
+use Rattle.base.proofs.Choice.{not-is, not-no}
 use Rattle.cluster.specs.Runs.{eventsOf}
 use Rattle.cabinet.proofs.Runs.{fit-of, run-unfit, run-refused, run-done}
 use borrow.Author.Needs.{needs}
@@ -28,7 +27,7 @@ returns c = let a = c .before .before .before .before .before .before .before .b
 
 -- src/run.rt:196:9
 read-cluster-requires : tie.Need-read-cluster-requires
-read-cluster-requires c κs = (sym (c .before .before .held-fits .ensures) ∙ was-true _ (c .before .if1 .left))
+read-cluster-requires c κs = (sym (c .before .before .held-fits .ensures) ∙ not-no _ (c .before .if1 .left))
 
 -- src/run.rt:197:9
 run-requires : tie.Need-run-requires
@@ -56,11 +55,11 @@ same-length-6 c = search needs
 
 -- src/run.rt:200:9
 returns-2 : tie.Need-returns-2
-returns-2 c = let a = c .before .before .before .before .before .before .before .before .before .before .before .before .before .before .before .before .before .before .before .before .before .before .before .before .before .args in run-refused (a .held .now) (a .hists .now) (a .cands .now) (a .queue .now) (a .out .now) (a .events .now) (a .budget) (c .before .before .before .before .before .before .before .before .before .before .before .before .before .before .read-cluster .result) (c .before .before .before .before .before .before .before .before .before .run .result) _ _ _ _ (c .before .before .before .before .before .before .before .before .before .before .before .before .before .before .before .before .before .held-fits .result) (eventsOf (c .before .before .before .before .before .before .before .before .before .before .before .before .before .before .read-cluster .result .sizes) (a .events .now) _) (c .before .before .before .before .before .before .before .before .before .before .before .before .before .before .before .before .before .held-fits .ensures) (was-true _ (c .before .before .before .before .before .before .before .before .before .before .before .before .before .before .before .before .if1 .left)) (c .before .before .before .before .before .before .before .before .before .before .before .before .before .before .read-cluster .ensures) (c .before .before .before .before .before .before .before .before .before .run .ensures) (λ z. absurd (omega (arith, c .if2 .taken)))
+returns-2 c = let a = c .before .before .before .before .before .before .before .before .before .before .before .before .before .before .before .before .before .before .before .before .before .before .before .before .before .args in run-refused (a .held .now) (a .hists .now) (a .cands .now) (a .queue .now) (a .out .now) (a .events .now) (a .budget) (c .before .before .before .before .before .before .before .before .before .before .before .before .before .before .read-cluster .result) (c .before .before .before .before .before .before .before .before .before .run .result) _ _ _ _ (c .before .before .before .before .before .before .before .before .before .before .before .before .before .before .before .before .before .held-fits .result) (eventsOf (c .before .before .before .before .before .before .before .before .before .before .before .before .before .before .read-cluster .result .sizes) (a .events .now) _) (c .before .before .before .before .before .before .before .before .before .before .before .before .before .before .before .before .before .held-fits .ensures) (not-no _ (c .before .before .before .before .before .before .before .before .before .before .before .before .before .before .before .before .if1 .left)) (c .before .before .before .before .before .before .before .before .before .before .before .before .before .before .read-cluster .ensures) (c .before .before .before .before .before .before .before .before .before .run .ensures) (λ z. absurd (omega (arith, c .if2 .taken)))
 
 -- src/run.rt:203:5
 write-cluster-requires : tie.Need-write-cluster-requires
-write-cluster-requires c κs = fit-of (c .before .before .before .before .before .before .before .before .before .before .before .before .before .before .before .before .before .before .before .before .before .before .before .before .before .before .before .args .held .now) (sym (c .before .before .before .before .before .before .before .before .before .before .before .before .before .before .before .before .before .before .before .held-fits .ensures) ∙ was-true _ (c .before .before .before .before .before .before .before .before .before .before .before .before .before .before .before .before .before .before .if1 .left)) .size
+write-cluster-requires c κs = fit-of (c .before .before .before .before .before .before .before .before .before .before .before .before .before .before .before .before .before .before .before .before .before .before .before .before .before .before .before .args .held .now) (sym (c .before .before .before .before .before .before .before .before .before .before .before .before .before .before .before .before .before .before .before .held-fits .ensures) ∙ not-no _ (c .before .before .before .before .before .before .before .before .before .before .before .before .before .before .before .before .before .before .if1 .left)) .size
 
 -- src/run.rt:181:1
 same-length-7 : tie.Need-same-length-7
@@ -84,7 +83,7 @@ same-length-11 c = search needs
 
 -- src/run.rt:181:1
 returns-3 : tie.Need-returns-3
-returns-3 c = let a = c .before .before .before .before .before .before .before .before .before .before .before .before .before .before .before .before .before .before .before .before .before .before .before .before .before .before .before .before .before .before .args in run-done (a .held .now) (a .hists .now) (a .cands .now) (a .queue .now) (a .out .now) (a .events .now) (a .budget) (c .before .before .before .before .before .before .before .before .before .before .before .before .before .before .before .before .before .before .before .read-cluster .result) (c .before .before .before .before .before .before .before .before .before .before .before .before .before .before .run .result) _ _ _ _ (c .before .before .before .before .before .before .before .before .before .before .before .before .before .before .before .before .before .before .before .before .before .before .held-fits .result) _ (c .before .before .before .before .before .before .before .before .before .before .before .before .before .before .before .before .before .before .before .before .before .before .held-fits .ensures) (was-true _ (c .before .before .before .before .before .before .before .before .before .before .before .before .before .before .before .before .before .before .before .before .before .if1 .left)) (c .before .before .before .before .before .before .before .before .before .before .before .before .before .before .before .before .before .before .before .read-cluster .ensures) (c .before .before .before .before .before .before .before .before .before .before .before .before .before .before .run .ensures) (let z : c .before .before .before .before .before .before .before .before .before .before .before .before .before .before .run .result .code ≡ 0 = omega (arith, c .before .before .before .before .before .if2 .left) in z) (c .before .before .write-cluster .ensures)
+returns-3 c = let a = c .before .before .before .before .before .before .before .before .before .before .before .before .before .before .before .before .before .before .before .before .before .before .before .before .before .before .before .before .before .before .args in run-done (a .held .now) (a .hists .now) (a .cands .now) (a .queue .now) (a .out .now) (a .events .now) (a .budget) (c .before .before .before .before .before .before .before .before .before .before .before .before .before .before .before .before .before .before .before .read-cluster .result) (c .before .before .before .before .before .before .before .before .before .before .before .before .before .before .run .result) _ _ _ _ (c .before .before .before .before .before .before .before .before .before .before .before .before .before .before .before .before .before .before .before .before .before .before .held-fits .result) _ (c .before .before .before .before .before .before .before .before .before .before .before .before .before .before .before .before .before .before .before .before .before .before .held-fits .ensures) (not-no _ (c .before .before .before .before .before .before .before .before .before .before .before .before .before .before .before .before .before .before .before .before .before .if1 .left)) (c .before .before .before .before .before .before .before .before .before .before .before .before .before .before .before .before .before .before .before .read-cluster .ensures) (c .before .before .before .before .before .before .before .before .before .before .before .before .before .before .run .ensures) (let z : c .before .before .before .before .before .before .before .before .before .before .before .before .before .before .run .result .code ≡ 0 = omega (arith, c .before .before .before .before .before .if2 .left) in z) (c .before .before .write-cluster .ensures)
 
 pub zab-run-spec : {M : Type 1} → statement M
 zab-run-spec =
