@@ -179,10 +179,10 @@ fn bit_of(b: bool) -> u64
     if b { 1 } else { 0 }
 }
 
-pub fn long(x: u32) -> u64
-    ensures { λ r. ⌜ r ≡ x ⌝ }
+pub fn long(n: u32) -> u64
+    ensures { λ r. ⌜ r ≡ n ⌝ }
 {
-    x as u64
+    n as u64
 }
 
 fn put_flags(w: &mut [u64], at: usize, q: [bool; 7])

@@ -215,8 +215,8 @@ pub fn larger_place(a: Place, b: Place) -> Place
     if a.0 < b.0 { b } else { a }
 }
 
-pub fn larger_epoch(a: Epoch, b: Epoch) -> Epoch
-    ensures { λ r. ⌜ r ≡ ep (max (a .0) (b .0)) ⌝ }
+pub fn larger_epoch(e: Epoch, f: Epoch) -> Epoch
+    ensures { λ r. ⌜ r ≡ ep (max (e .0) (f .0)) ⌝ }
 {
-    if a.0 < b.0 { b } else { a }
+    if e.0 < f.0 { f } else { e }
 }
