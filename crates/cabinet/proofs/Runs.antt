@@ -23,9 +23,9 @@ use Rattle.octets.specs.Bytes.{under, BYTE}
 use Rattle.octets.specs.Record.{stateWords, stateAt}
 use Rattle.octets.proofs.Laws.{under-of, part-at, put-more, put-none}
 use Rattle.site.specs.declared.Cluster.{Cluster}
-use Rattle.cluster.specs.declared.Ran.{Ran}
+use Rattle.runs.specs.declared.Ran.{Ran}
 use Rattle.site.specs.Site.{Site, siteOf, none}
-use Rattle.cluster.specs.Runs.{eventsOf, Runs}
+use Rattle.runs.specs.Runs.{eventsOf, Runs}
 use Rattle.cabinet.specs.Zab.{sizes}
 use Rattle.cabinet.specs.Run.{recordPlace, recordWords, recordFits, ringWords, heldFits, clusterAt, fiveOf, recordsOf, heldOf, Finish, halts, ran, mayRun, runOf, Finishes}
 

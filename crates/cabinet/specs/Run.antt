@@ -17,7 +17,7 @@ use Rattle.octets.specs.Record.{RECORD, stateWords, stateAt, fits}
 use Rattle.ring.specs.Queue.{RINGS}
 use Rattle.site.specs.declared.Cluster.{Cluster}
 use Rattle.site.specs.Site.{Site, siteOf, clusterOf}
-use Rattle.cluster.specs.Runs.{eventsOf, played, tally, goodRun}
+use Rattle.runs.specs.Runs.{eventsOf, played, tally, goodRun}
 use Rattle.cabinet.specs.Zab.{sizes}
 
 -- ---- the struct in 369 words: n, room, depth, events met, events taken; seven records; the heads of 49 rings, and their counts

@@ -191,7 +191,7 @@ pub extern "C" fn zab_run<'a>(
         return 1;
     }
     let c = read_cluster(held);
-    let t = cluster::run(c, events, budget, hists, cands, queue, out);
+    let t = runs::run(c, events, budget, hists, cands, queue, out);
     let code = t.code;
     if code != 0 {
         return code;

@@ -7,7 +7,7 @@ use pledge::Calmed;
 ghost use Prim.Native.Nat.{_≤_, _<_};
 ghost use mathlib.Core.Path.{_≡_};
 ghost use mathlib.Core.Bool.{true};
-ghost use Rattle.cluster.specs.Runs.{goodFresh};
+ghost use Rattle.cluster.specs.Any.{goodFresh};
 ghost use Rattle.pledge.specs.Moves.{Counted};
 ghost use Rattle.calmly.specs.Counts.{sizesOf};
 

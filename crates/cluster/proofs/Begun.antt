@@ -24,7 +24,7 @@ use Rattle.site.specs.Parts.{share, part}
 use Rattle.site.specs.Site.{Site, siteOf, recordAt, none, seated, serverAt, clusterOf, Good}
 use Rattle.site.specs.declared.Cluster.{Cluster}
 use Rattle.site.proofs.Goods.{Fits, fit-facts, good-shown}
-use Rattle.cluster.specs.Runs.{noRings, freshOf, goodFresh, Freshly}
+use Rattle.cluster.specs.Any.{noRings, freshOf, goodFresh, Freshly}
 
 pub fresh-made : (z : Sizes) (depth : ℕ) (a b c d e f g : State) → a ≡ stateOf 0 fresh → b ≡ stateOf 1 fresh → c ≡ stateOf 2 fresh → d ≡ stateOf 3 fresh → e ≡ stateOf 4 fresh → f ≡ stateOf 5 fresh → g ≡ stateOf 6 fresh
     → _≡_ {A = Cluster} (record { sizes = z; depth = depth; servers = a ∷ b ∷ c ∷ d ∷ e ∷ f ∷ g ∷ []; rings = noRings }) (freshOf z depth)

@@ -8,7 +8,7 @@ use site::Cluster;
 ghost use mathlib.Core.Path.{_≡_};
 ghost use Rattle.rules.specs.Server.{fresh};
 ghost use Rattle.rules.specs.Words.{stateOf};
-ghost use Rattle.cluster.specs.Runs.{freshOf};
+ghost use Rattle.cluster.specs.Any.{freshOf};
 
 // LOOK with all else zero.
 fn fresh_state(i: u8) -> State

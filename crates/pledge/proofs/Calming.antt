@@ -15,10 +15,11 @@ use Rattle.rules.specs.Server.{goodSizes}
 use Rattle.rules.specs.Cluster.{Cluster as Servers, Event, S, event, after, play, isDone}
 use Rattle.site.specs.Site.{Site, siteOf, clusterOf, goodSite}
 use Rattle.turn.specs.Events.{meant, eventOf, wholeEvent, outcomeOf}
-use Rattle.cluster.specs.Runs.{eventsOf, played, tally, goodRun, Happens, Runs}
+use Rattle.cluster.specs.Any.{Happens}
+use Rattle.runs.specs.Runs.{eventsOf, played, tally, goodRun, Runs}
 use Rattle.site.specs.declared.Cluster.{Cluster}
 use Rattle.site.specs.declared.Told.{Told}
-use Rattle.cluster.specs.declared.Ran.{Ran}
+use Rattle.runs.specs.declared.Ran.{Ran}
 use Rattle.turn.specs.declared.Happening.the-variants as happens
 use Rattle.site.proofs.Goods.{fit-facts}
 use Rattle.pledge.specs.Moves.{names, nameWords, settling, renamed, regained, submission, finished, settles, turned, rested, begun, ended, Moves, Calms}

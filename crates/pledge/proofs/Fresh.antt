@@ -30,7 +30,7 @@ use Rattle.ledger.proofs.SubmittedOnce.{submitted-once}
 use Rattle.calm.specs.Calm.{below, naming, Lively, end, then}
 use Rattle.site.proofs.Goods.{fit-facts}
 use Rattle.site.specs.Site.{Site, siteOf, clusterOf, goodSite}
-use Rattle.cluster.specs.Runs.{goodFresh, Freshly}
+use Rattle.cluster.specs.Any.{goodFresh, Freshly}
 use Rattle.site.specs.declared.Cluster.{Cluster as Held}
 use Rattle.site.specs.declared.Told.{Told}
 use Rattle.pledge.specs.Moves.{othersFrom, names, settles, turned, rested, regained, Leads, Roomy, Calms, Counted}

@@ -14,7 +14,7 @@ use Rattle.rules.specs.Server.{goodSizes}
 use Rattle.rules.specs.Cluster.{Cluster, Event, S, start, event, play, isDone}
 use Rattle.calm.specs.Calm.{below, Others, Lively, Recovered, Established, Round, submitted-entry}
 use Rattle.calm.proofs.ItMoves as it
-use Rattle.cluster.specs.Runs.{tally}
+use Rattle.runs.specs.Runs.{tally}
 use Rattle.pledge.specs.Moves.{othersFrom, names, settles, turned, rested, begun, ended, Leads, Roomy}
 use Rattle.pledge.proofs.Settled.{eased-lively, eased-stops, eased-counts, all-counted}
 use Rattle.pledge.proofs.Named.{all-others, length-names}

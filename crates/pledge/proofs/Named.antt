@@ -12,7 +12,7 @@ use Rattle.base.specs.declared.Sizes.{Sizes}
 use Rattle.base.proofs.Choice.{le-or-lt, eq-or, clash, both-yes, both-true, either-left, either-right, not-is}
 use Rattle.rules.specs.Cluster.{O}
 use Rattle.calm.specs.Calm.{below, among, Others, naming}
-use Rattle.cluster.specs.Runs.{named, eventAt, eventsFrom, within, eventsOf}
+use Rattle.runs.specs.Runs.{named, eventAt, eventsFrom, within, eventsOf}
 use Rattle.pledge.specs.Moves.{otherAt, othersFrom, names, nameWords}
 
 -- ---- every server but x is one of them

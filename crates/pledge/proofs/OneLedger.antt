@@ -22,10 +22,11 @@ use Rattle.ledger.proofs.Kept.{kept}
 use Rattle.ledger.proofs.SubmittedOnce.{submitted-once}
 use Rattle.ledger.proofs.OneLeader.{one-leader}
 use Rattle.site.specs.Site.{Site, siteOf, clusterOf, serverAt, goodSite}
-use Rattle.cluster.specs.Runs.{goodFresh, freshOf, eventsOf, goodRun, Freshly, Runs}
+use Rattle.cluster.specs.Any.{goodFresh, freshOf, Freshly}
+use Rattle.runs.specs.Runs.{eventsOf, goodRun, Runs}
 use Rattle.site.specs.declared.Cluster.{Cluster}
 use Rattle.site.specs.declared.Told.{Told}
-use Rattle.cluster.specs.declared.Ran.{Ran}
+use Rattle.runs.specs.declared.Ran.{Ran}
 use Rattle.cluster.proofs.Begun.{freshSite}
 use Rattle.pledge.specs.Ledger.{deliveredAt, OneLedger, fits, blank, Pledged}
 

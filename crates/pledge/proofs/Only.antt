@@ -4,8 +4,8 @@ use mathlib.Core.Path.{_≡_, sym, _∙_}
 use mathlib.Core.List.{List}
 use Rattle.base.specs.declared.Sizes.{Sizes}
 use Rattle.site.specs.Site.{Site, siteOf}
-use Rattle.cluster.specs.declared.Ran.{Ran}
-use Rattle.cluster.proofs.Only.{same-cluster, same-words}
+use Rattle.runs.specs.declared.Ran.{Ran}
+use Rattle.site.proofs.Alike.{same-cluster, same-words}
 use Rattle.pledge.specs.Ledger.{Pledged}
 use Rattle.pledge.specs.Moves.{Calms}
 use Rattle.pledge.specs.declared.Calmed.{Calmed}

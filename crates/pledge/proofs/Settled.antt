@@ -16,8 +16,8 @@ use Rattle.rules.specs.Message.{Msg}
 use Rattle.rules.specs.Cluster.{Cluster, Event, event, after, play, isDone}
 use Rattle.calm.specs.Calm.{below, allDone, Lively, end, then}
 use Rattle.ring.proofs.Parts.{row-in}
-use Rattle.cluster.specs.Runs.{channelAt, lowest, easings, tally}
-use Rattle.cluster.proofs.Series.{channel-in, ease-more, ease-none}
+use Rattle.runs.specs.Runs.{channelAt, lowest, easings, tally}
+use Rattle.runs.proofs.Series.{channel-in, ease-more, ease-none}
 
 -- ---- the lowest channel in which a message waits
 

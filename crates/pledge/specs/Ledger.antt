@@ -17,9 +17,10 @@ use Rattle.ledger.specs.Delivered.{deliveredOf}
 use Rattle.ledger.specs.Records.{count, isE, Submitted}
 use Rattle.site.specs.Parts.{part}
 use Rattle.site.specs.Site.{Site, siteOf, recordAt, clusterOf, goodSite}
-use Rattle.cluster.specs.Runs.{goodFresh, freshOf, eventsOf, played, tally}
+use Rattle.cluster.specs.Any.{goodFresh, freshOf}
+use Rattle.runs.specs.Runs.{eventsOf, played, tally}
 use Rattle.site.specs.declared.Cluster.{Cluster}
-use Rattle.cluster.specs.declared.Ran.{Ran}
+use Rattle.runs.specs.declared.Ran.{Ran}
 
 -- x begins y
 -- what server i has delivered: the first d transactions of its words

@@ -14,7 +14,7 @@ use Rattle.rules.specs.Cluster.{Cluster as Servers, Event, S, start, event, aft
 use Rattle.calm.specs.Calm.{below, naming, Recovered, Established, submitted-entry}
 use Rattle.site.specs.Site.{Site, clusterOf, goodSite}
 use Rattle.turn.specs.Events.{After, eventOf}
-use Rattle.cluster.specs.Runs.{played, tally, easings}
+use Rattle.runs.specs.Runs.{played, tally, easings}
 use Rattle.pledge.specs.declared.Calmed.{Calmed}
 
 -- ---- who is named

@@ -1,6 +1,6 @@
 // A cluster's code and the theorems together: what its runs promise of the words that they leave.
 use base::Sizes;
-use cluster::Ran;
+use runs::Ran;
 use site::Cluster;
 use turn::Happening;
 ghost use Prim.Native.Nat.{_<_};
@@ -42,7 +42,7 @@ pub fn ledger<'a>(
             cluster: c,
         };
     }
-    cluster::run(c, es, budget, hists, cands, queue, out)
+    runs::run(c, es, budget, hists, cands, queue, out)
 }
 
 // Of the servers other than x, in rising number, the one of number j.
@@ -106,11 +106,11 @@ pub fn calm<'a>(
 {
     let words = name_words(x);
     let n = c.sizes.n as usize;
-    let a = cluster::run(c, &words, n, hists, cands, queue, out);
-    let b = cluster::settle(a.cluster, 64, hists, cands, queue, out);
+    let a = runs::run(c, &words, n, hists, cands, queue, out);
+    let b = runs::settle(a.cluster, 64, hists, cands, queue, out);
     let e = Happening::Submit(x as u64, v);
     let s = cluster::event(b.cluster, e, hists, cands, queue, out);
-    let d = cluster::settle(s.cluster, 64, hists, cands, queue, out);
+    let d = runs::settle(s.cluster, 64, hists, cands, queue, out);
     let end = d.cluster;
     Calmed {
         code: s.code,

@@ -4,7 +4,7 @@ use mathlib.Core.Path.{_≡_, sym, _∙_}
 use mathlib.Core.List.{List}
 use Rattle.rules.specs.Cluster.{Event}
 use Rattle.site.specs.declared.Cluster.{Cluster}
-use Rattle.cluster.proofs.Only.{same-cluster, same-words}
+use Rattle.site.proofs.Alike.{same-cluster, same-words}
 use Rattle.scribe.specs.Telling.{Tells}
 use Rattle.scribe.specs.declared.Said.{Said}
 

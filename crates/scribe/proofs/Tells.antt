@@ -30,7 +30,7 @@ use Rattle.site.specs.Parts.{part}
 use Rattle.site.specs.Site.{Site, siteOf, recordAt, seated, serverAt, clusterOf, goodSeat, fitting, goodSite}
 use Rattle.turn.specs.Events.{wholeEvent, actor, asks, outcomeOf}
 use Rattle.turn.specs.Turns.{afterOf}
-use Rattle.cluster.specs.Runs.{Happens}
+use Rattle.cluster.specs.Any.{Happens}
 use Rattle.site.proofs.Seats.{part-in}
 use Rattle.site.proofs.Goods.{Fits, fit-facts}
 use Rattle.script.specs.Text.{bytesOf, Wrote}

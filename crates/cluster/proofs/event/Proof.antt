@@ -6,7 +6,7 @@ use lib.ListN.{length, length-map}
 use Rattle.base.proofs.Choice.{not-is, not-no}
 use Rattle.turn.specs.Events.{meant}
 use Rattle.site.proofs.Goods.{good-lent}
-use Rattle.cluster.proofs.Series.{happens-refused, happens-does}
+use Rattle.cluster.proofs.Events.{happens-refused, happens-does}
 use borrow.Author.Needs.{needs}
 use Rattle.cluster.proofs.event.Statement.{statement}
 use Rattle.cluster.proofs.event.Tie as tie

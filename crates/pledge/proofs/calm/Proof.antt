@@ -6,8 +6,8 @@ use Rattle.pledge.proofs.calm.Tie as tie
 use Rattle.pledge.proofs.calm.Reads as reads
 use Rattle.pledge.proofs.calm.Lts as lts
 use Rattle.cluster.proofs.event.Reads as event-reads
-use Rattle.cluster.proofs.run.Reads as run-reads
-use Rattle.cluster.proofs.settle.Reads as settle-reads
+use Rattle.runs.proofs.run.Reads as run-reads
+use Rattle.runs.proofs.settle.Reads as settle-reads
 use Rattle.pledge.proofs.name_words.Reads as name-words-reads
 
 -- src/lib.rt:84:17

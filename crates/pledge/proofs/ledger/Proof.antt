@@ -5,7 +5,7 @@ use Rattle.pledge.proofs.ledger.Tie as tie
 use Rattle.pledge.proofs.ledger.Reads as reads
 use Rattle.pledge.proofs.ledger.Lts as lts
 use Rattle.cluster.proofs.fresh.Reads as fresh-reads
-use Rattle.cluster.proofs.run.Reads as run-reads
+use Rattle.runs.proofs.run.Reads as run-reads
 
 -- src/lib.rt:19:9
 fresh-requires : tie.Need-fresh-requires

@@ -1,7 +1,7 @@
 use mathlib.Core.Path.{_≡_, sym, _∙_}
 use native.Mathlib.Omega.{arith}
 use Rattle.base.proofs.Choice.{not-is, not-no}
-use Rattle.cluster.specs.Runs.{eventsOf}
+use Rattle.runs.specs.Runs.{eventsOf}
 use Rattle.cabinet.proofs.Runs.{fit-of, run-unfit, run-refused, run-done}
 use borrow.Author.Needs.{needs}
 use Rattle.cabinet.proofs.run.zab_run.Statement.{statement}
@@ -11,7 +11,7 @@ use Rattle.cabinet.proofs.run.zab_run.Lts as lts
 use Rattle.cabinet.proofs.run.held_fits.Reads as held-fits-reads
 use Rattle.cabinet.proofs.run.read_cluster.Reads as read-cluster-reads
 use Rattle.cabinet.proofs.run.write_cluster.Reads as write-cluster-reads
-use Rattle.cluster.proofs.run.Reads as run-reads
+use Rattle.runs.proofs.run.Reads as run-reads
 
 -- src/run.rt:193:9
 held-fits-requires : tie.Need-held-fits-requires

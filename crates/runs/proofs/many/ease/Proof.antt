@@ -1,19 +1,19 @@
 use Rattle.rules.proofs.WellFormed.{sized}
 use mathlib.Core.Path.{_∙_}
-use Rattle.cluster.proofs.Series.{ease-next}
+use Rattle.runs.proofs.Series.{ease-next}
 use borrow.Author.Needs.{needs}
 use Prim.Native.Nat.{_-_, _*_, _≤_, _<_}
 use mathlib.Core.Path.{_≡_, refl}
 use native.Mathlib.Omega.{arith}
 use lib.ListN.{length}
 use Rattle.ring.proofs.Laws.{times}
-use Rattle.cluster.proofs.Series.{Easing, mid-good, ease-start, ease-stop, ease-end}
-use Rattle.cluster.proofs.many.ease.Statement.{statement}
-use Rattle.cluster.proofs.many.ease.Tie as tie
-use Rattle.cluster.proofs.many.ease.Reads as reads
-use Rattle.cluster.proofs.many.ease.Lts as lts
-use Rattle.cluster.proofs.many.lowest.Reads as lowest-reads
-use Rattle.cluster.proofs.many.on.Reads as on-reads
+use Rattle.runs.proofs.Series.{Easing, mid-good, ease-start, ease-stop, ease-end}
+use Rattle.runs.proofs.many.ease.Statement.{statement}
+use Rattle.runs.proofs.many.ease.Tie as tie
+use Rattle.runs.proofs.many.ease.Reads as reads
+use Rattle.runs.proofs.many.ease.Lts as lts
+use Rattle.runs.proofs.many.lowest.Reads as lowest-reads
+use Rattle.runs.proofs.many.on.Reads as on-reads
 
 abbrev Inv-loop : tie.InvT-loop
 Inv-loop budget hists₀ cands₀ queue₀ out₀ z n t₀ hists cands queue out t = (t .met ≤ budget) × ((length hists ≡ length hists₀) × ((length cands ≡ length cands₀) × ((length queue ≡ length queue₀) × ((length out ≡ length out₀) × Easing (t₀ .cluster) budget hists₀ cands₀ queue₀ out₀ t hists cands queue out))))

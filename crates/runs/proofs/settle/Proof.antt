@@ -1,4 +1,4 @@
-use Rattle.cluster.specs.Runs.{easings}
+use Rattle.runs.specs.Runs.{easings}
 use Rattle.rules.proofs.State as state
 use borrow.Author.Needs.{length-unmapped}
 use Prim.Native.Nat.{ℕ}
@@ -7,15 +7,15 @@ use lib.ListN.{length, length-map}
 use Rattle.base.proofs.Choice.{not-is, not-no}
 use Rattle.site.specs.Site.{siteOf, clusterOf}
 use Rattle.site.proofs.Goods.{good-lent}
-use Rattle.cluster.proofs.Series.{settle-refused, settle-does}
+use Rattle.runs.proofs.Series.{settle-refused, settle-does}
 use borrow.Author.Needs.{needs}
-use Rattle.cluster.proofs.settle.Statement.{statement}
-use Rattle.cluster.proofs.settle.Tie as tie
-use Rattle.cluster.proofs.settle.Reads as reads
-use Rattle.cluster.proofs.settle.Lts as lts
+use Rattle.runs.proofs.settle.Statement.{statement}
+use Rattle.runs.proofs.settle.Tie as tie
+use Rattle.runs.proofs.settle.Reads as reads
+use Rattle.runs.proofs.settle.Lts as lts
 use Rattle.site.proofs.good.Reads as good-reads
-use Rattle.cluster.proofs.many.ease.Reads as ease-reads
-use Rattle.cluster.proofs.many.refused.Reads as refused-reads
+use Rattle.runs.proofs.many.ease.Reads as ease-reads
+use Rattle.runs.proofs.many.refused.Reads as refused-reads
 
 -- src/lib.rt:124:9
 good-requires : tie.Need-good-requires

@@ -3,13 +3,13 @@ use Prim.Native.Nat.{_-_, _≤_, _<_}
 use mathlib.Core.Path.{_≡_, refl}
 use native.Mathlib.Omega.{arith}
 use lib.ListN.{length}
-use Rattle.cluster.proofs.Series.{Reading, mid-good, read-start, read-met, read-on, read-end}
-use Rattle.cluster.proofs.many.many.Statement.{statement}
-use Rattle.cluster.proofs.many.many.Tie as tie
-use Rattle.cluster.proofs.many.many.Reads as reads
-use Rattle.cluster.proofs.many.many.Lts as lts
-use Rattle.cluster.proofs.many.on.Reads as on-reads
-use Rattle.cluster.proofs.many.read_event.Reads as read-event-reads
+use Rattle.runs.proofs.Series.{Reading, mid-good, read-start, read-met, read-on, read-end}
+use Rattle.runs.proofs.many.many.Statement.{statement}
+use Rattle.runs.proofs.many.many.Tie as tie
+use Rattle.runs.proofs.many.many.Reads as reads
+use Rattle.runs.proofs.many.many.Lts as lts
+use Rattle.runs.proofs.many.on.Reads as on-reads
+use Rattle.runs.proofs.many.read_event.Reads as read-event-reads
 
 abbrev Inv-loop : tie.InvT-loop
 Inv-loop es n hists₀ cands₀ queue₀ out₀ t₀ j₀ hists cands queue out t j = (j ≤ n) × ((length hists ≡ length hists₀) × ((length cands ≡ length cands₀) × ((length queue ≡ length queue₀) × ((length out ≡ length out₀) × Reading (t₀ .cluster) es n j hists₀ cands₀ queue₀ out₀ t hists cands queue out))))

@@ -1,11 +1,11 @@
 use Rattle.turn.specs.Events.{meant}
-use Rattle.cluster.proofs.Series.{on-does}
+use Rattle.runs.proofs.Series.{on-does}
 use borrow.Author.Needs.{needs}
-use Rattle.cluster.proofs.many.on.Statement.{statement}
-use Rattle.cluster.proofs.many.on.Tie as tie
-use Rattle.cluster.proofs.many.on.Reads as reads
-use Rattle.cluster.proofs.many.on.Lts as lts
-use Rattle.cluster.proofs.many.one_if.Reads as one-if-reads
+use Rattle.runs.proofs.many.on.Statement.{statement}
+use Rattle.runs.proofs.many.on.Tie as tie
+use Rattle.runs.proofs.many.on.Reads as reads
+use Rattle.runs.proofs.many.on.Lts as lts
+use Rattle.runs.proofs.many.one_if.Reads as one-if-reads
 use Rattle.turn.proofs.turn.Reads as turn-reads
 
 -- src/many.rt:65:9

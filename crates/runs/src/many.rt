@@ -12,7 +12,7 @@ ghost use Rattle.base.specs.Choice.{pick};
 ghost use Rattle.base.specs.declared.Sizes.{Sizes};
 ghost use Rattle.site.specs.Site.{siteOf, clusterOf, Good};
 ghost use Rattle.turn.specs.Events.{meant};
-ghost use Rattle.cluster.specs.Runs.{eventAt, eventsFrom, lowestRing, easings, On, Does, refusedOf};
+ghost use Rattle.runs.specs.Runs.{eventAt, eventsFrom, lowestRing, easings, On, Does, refusedOf};
 
 // Event j of the lent words.
 fn read_event(es: &[u64], j: usize) -> Happening

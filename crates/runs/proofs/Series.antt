@@ -20,12 +20,12 @@ use Rattle.ring.specs.declared.Rings.{Rings}
 use Rattle.ring.specs.Queue.{count, chans, Chan}
 use Rattle.ring.proofs.Laws.{chan-count}
 use Rattle.site.specs.Site.{Site, siteOf, clusterOf, goodSite, Good}
-use Rattle.turn.specs.Events.{meant, eventOf, wholeEvent}
+use Rattle.turn.specs.Events.{meant, eventOf}
 use Rattle.turn.specs.Turns.{afterOf, Turned}
-use Rattle.cluster.specs.Runs.{named, eventAt, eventsFrom, within, eventsOf, played, tally, goodRun, Happens, On, Does, refusedOf, Runs, channelAt, lowest, lowestRing, easings}
+use Rattle.runs.specs.Runs.{named, eventAt, eventsFrom, within, eventsOf, played, tally, goodRun, On, Does, refusedOf, Runs, channelAt, lowest, lowestRing, easings}
 use Rattle.site.specs.declared.Cluster.{Cluster}
 use Rattle.site.specs.declared.Told.{Told}
-use Rattle.cluster.specs.declared.Ran.{Ran}
+use Rattle.runs.specs.declared.Ran.{Ran}
 use Rattle.turn.specs.declared.Happening.{Happening}
 use Rattle.turn.specs.declared.Happening.the-variants as happens
 use Rattle.site.proofs.Goods.{good-shown}
@@ -302,20 +302,6 @@ ease-end c budget h k q o t h′ k′ q′ o′ m l =
     mid-end c all h k q o t h′ k′ q′ o′ (subst (λ (es : List Event). Midway c all es h k q o t h′ k′ q′ o′) rest m)
 
 -- ---- any input
-
-pub happens-refused : (c : Cluster) (e : Event) (h k q o : List ℕ) (b : Bool) → b ≡ goodSite (c .sizes) (c .depth) (siteOf c h k q o) → b ≡ false
-    → Happens c e h k q o (record { code = 1; cluster = c }) h k q o
-unfolding wholeEvent pick
-happens-refused c e h k q o b x f =
-    let n : goodSite (c .sizes) (c .depth) (siteOf c h k q o) ≡ false = sym x ∙ f in
-    record { leaves = rw n record { code = refl; sizes = refl; depth = refl; site = refl }; rules = λ t. clash t n; good = λ t. clash t n }
-
-pub happens-does : (c : Cluster) (e : Event) (h k q o : List ℕ) (b : Bool) (t : Told) (h′ k′ q′ o′ : List ℕ) → b ≡ goodSite (c .sizes) (c .depth) (siteOf c h k q o) → b ≡ true
-    → Turned c e h k q o t h′ k′ q′ o′ → Happens c e h k q o t h′ k′ q′ o′
-unfolding wholeEvent pick
-happens-does c e h k q o b t h′ k′ q′ o′ x f d =
-    let y : goodSite (c .sizes) (c .depth) (siteOf c h k q o) ≡ true = sym x ∙ f in
-    record { leaves = rw y (d .leaves); rules = λ _. d .rules; good = λ _. good-shown (c .sizes) (c .depth) (siteOf (t .cluster) h′ k′ q′ o′) (d .good) }
 
 pub runs-refused : (c : Cluster) (ok : Bool) (es : List Event) (h k q o : List ℕ) (t : Ran) → ok ≡ false → t ≡ refusedOf c → Runs c ok es h k q o t h k q o
 unfolding pick

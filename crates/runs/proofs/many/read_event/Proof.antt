@@ -1,9 +1,9 @@
-use Rattle.cluster.proofs.Series.{read-oracle, read-restart, read-deliver, read-submit, read-unknown}
+use Rattle.runs.proofs.Series.{read-oracle, read-restart, read-deliver, read-submit, read-unknown}
 use borrow.Author.Needs.{needs}
-use Rattle.cluster.proofs.many.read_event.Statement.{statement}
-use Rattle.cluster.proofs.many.read_event.Tie as tie
-use Rattle.cluster.proofs.many.read_event.Reads as reads
-use Rattle.cluster.proofs.many.read_event.Lts as lts
+use Rattle.runs.proofs.many.read_event.Statement.{statement}
+use Rattle.runs.proofs.many.read_event.Tie as tie
+use Rattle.runs.proofs.many.read_event.Reads as reads
+use Rattle.runs.proofs.many.read_event.Lts as lts
 
 -- src/many.rt:23:14
 mul-at : tie.Need-mul-at

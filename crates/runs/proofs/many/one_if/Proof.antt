@@ -1,10 +1,10 @@
 use native.Mathlib.Omega.{arith}
 use borrow.Author.Tests.{eq-eqb, ne-eqb}
 use Rattle.base.specs.Choice.{pick}
-use Rattle.cluster.proofs.many.one_if.Statement.{statement}
-use Rattle.cluster.proofs.many.one_if.Tie as tie
-use Rattle.cluster.proofs.many.one_if.Reads as reads
-use Rattle.cluster.proofs.many.one_if.Lts as lts
+use Rattle.runs.proofs.many.one_if.Statement.{statement}
+use Rattle.runs.proofs.many.one_if.Tie as tie
+use Rattle.runs.proofs.many.one_if.Reads as reads
+use Rattle.runs.proofs.many.one_if.Lts as lts
 
 -- src/many.rt:47:9
 returns : tie.Need-returns

@@ -7,15 +7,15 @@ use lib.ListN.{length, length-map}
 use Rattle.base.proofs.Choice.{not-is, not-no}
 use Rattle.site.specs.Site.{siteOf}
 use Rattle.site.proofs.Goods.{good-lent}
-use Rattle.cluster.proofs.Series.{runs-refused, run-unsound, run-uneven, run-sound, within-all, within-budget, run-does}
+use Rattle.runs.proofs.Series.{runs-refused, run-unsound, run-uneven, run-sound, within-all, within-budget, run-does}
 use borrow.Author.Needs.{needs}
-use Rattle.cluster.proofs.run.Statement.{statement}
-use Rattle.cluster.proofs.run.Tie as tie
-use Rattle.cluster.proofs.run.Reads as reads
-use Rattle.cluster.proofs.run.Lts as lts
+use Rattle.runs.proofs.run.Statement.{statement}
+use Rattle.runs.proofs.run.Tie as tie
+use Rattle.runs.proofs.run.Reads as reads
+use Rattle.runs.proofs.run.Lts as lts
 use Rattle.site.proofs.good.Reads as good-reads
-use Rattle.cluster.proofs.many.many.Reads as many-reads
-use Rattle.cluster.proofs.many.refused.Reads as refused-reads
+use Rattle.runs.proofs.many.many.Reads as many-reads
+use Rattle.runs.proofs.many.refused.Reads as refused-reads
 
 -- src/lib.rt:100:9
 good-requires : tie.Need-good-requires

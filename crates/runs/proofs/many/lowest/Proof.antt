@@ -3,11 +3,11 @@ use Prim.Native.Nat.{_-_, _*_, _≤_, _<_}
 use native.Mathlib.Omega.{arith}
 use Rattle.ring.proofs.Laws.{times}
 use Rattle.ring.specs.Queue.{count}
-use Rattle.cluster.proofs.Series.{Lowest, low-start, low-on, low-found, low-end}
-use Rattle.cluster.proofs.many.lowest.Statement.{statement}
-use Rattle.cluster.proofs.many.lowest.Tie as tie
-use Rattle.cluster.proofs.many.lowest.Reads as reads
-use Rattle.cluster.proofs.many.lowest.Lts as lts
+use Rattle.runs.proofs.Series.{Lowest, low-start, low-on, low-found, low-end}
+use Rattle.runs.proofs.many.lowest.Statement.{statement}
+use Rattle.runs.proofs.many.lowest.Tie as tie
+use Rattle.runs.proofs.many.lowest.Reads as reads
+use Rattle.runs.proofs.many.lowest.Lts as lts
 
 abbrev Inv-loop : tie.InvT-loop
 Inv-loop r n j₀ j = (j ≤ n) × Lowest r n j
