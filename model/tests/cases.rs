@@ -107,11 +107,10 @@ fn p2_accepted_epoch_comes_before_the_last_identifier() {
     assert_eq!(taken.sent, [(1, sent.clone()), (2, sent)]);
 }
 
-#[test]
-fn p2_the_other_way_round() {
-    let own = txs(&[(1, 1)]);
-    let held = choosing(2, own.clone());
-    let history = txs(&[(1, 1), (1, 2), (1, 3)]);
+/// A leader that holds `own`, accepted in epoch `a`, keeps it when a follower
+/// tells `history`, accepted in epoch 1.
+fn own_stays(a: u32, own: Vec<Tx>, history: Vec<Tx>) {
+    let held = choosing(a, own.clone());
     let message = Message::AckE {
         e: 3,
         a: 1,
@@ -122,18 +121,16 @@ fn p2_the_other_way_round() {
 }
 
 #[test]
+fn p2_the_other_way_round() {
+    own_stays(2, txs(&[(1, 1)]), txs(&[(1, 1), (1, 2), (1, 3)]));
+}
+
+#[test]
 fn p3_equal_pairs_the_earlier_stays() {
     let own = txs(&[(1, 1)]);
-    let held = choosing(1, own.clone());
     let mut history = own.clone();
     history[0].value = 77;
-    let message = Message::AckE {
-        e: 3,
-        a: 1,
-        history,
-    };
-    let taken = given(sizes(3, 4), &held, 1, message).unwrap();
-    assert_eq!(taken.next.history, own);
+    own_stays(1, own, history);
 }
 
 #[test]

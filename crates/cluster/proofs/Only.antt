@@ -5,20 +5,13 @@ use mathlib.Core.List.{List}
 use Rattle.base.specs.declared.Sizes.{Sizes}
 use Rattle.rules.specs.Cluster.{Event}
 use Rattle.cluster.specs.Any.{Happens, Freshly}
-use Rattle.site.proofs.Alike.{same-cluster, same-words}
+use Rattle.turn.proofs.Only.{one-left}
 use Rattle.site.specs.declared.Cluster.{Cluster}
 use Rattle.site.specs.declared.Told.{Told}
 
 pub one-event : (c : Cluster) (e : Event) (h k q o : List ℕ) (t u : Told) (h′ k′ q′ o′ h″ k″ q″ o″ : List ℕ) → Happens c e h k q o t h′ k′ q′ o′ → Happens c e h k q o u h″ k″ q″ o″
     → (t ≡ u) × ((h′ ≡ h″) × (k′ ≡ k″) × (q′ ≡ q″) × (o′ ≡ o″))
-one-event c e h k q o t u h′ k′ q′ o′ h″ k″ q″ o″ x y =
-    let a = x .leaves in
-    let b = y .leaves in
-    let p = a .code ∙ sym (b .code) in
-    let d = same-cluster (t .cluster) (u .cluster) h′ k′ q′ o′ h″ k″ q″ o″ (a .sizes ∙ sym (b .sizes)) (a .depth ∙ sym (b .depth)) (a .site ∙ sym (b .site)) in (
-      (λ j. record { code = p j; cluster = d j }),
-      same-words (t .cluster) (u .cluster) h′ k′ q′ o′ h″ k″ q″ o″ (a .sizes ∙ sym (b .sizes)) (a .depth ∙ sym (b .depth)) (a .site ∙ sym (b .site)),
-    )
+one-event c e h k q o t u h′ k′ q′ o′ h″ k″ q″ o″ x y = one-left c _ t u h′ k′ q′ o′ h″ k″ q″ o″ (x .leaves) (y .leaves)
 
 pub one-fresh : (z : Sizes) (depth : ℕ) (h k q o : List ℕ) (t u : Told) (h′ k′ q′ h″ k″ q″ : List ℕ) → Freshly z depth h k q o t h′ k′ q′ → Freshly z depth h k q o u h″ k″ q″
     → (t ≡ u) × (h′ ≡ h″) × (k′ ≡ k″) × (q′ ≡ q″)

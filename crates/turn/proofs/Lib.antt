@@ -5,3 +5,4 @@ pub mod Fate
 pub mod Fares
 pub mod Turning
 pub mod Outcomes
+pub mod Only
