@@ -1,5 +1,4 @@
 -- The cluster's struct in words and back: reading and writing are inverse.
-use Rattle.ring.proofs.Parts.{tab-same}
 use Prim.Native.Nat.{ℕ, zero, suc, _+_, _*_, _≤_, _<_}
 use mathlib.Core.Path.{_≡_, refl, sym, ap, _∙_}
 use mathlib.Core.Bool.{true}
@@ -10,11 +9,12 @@ use lib.Seq.{drop-cons, take-at, drop-at, drop-drop, length-take-le, take-all}
 use Rattle.rules.specs.declared.State.{State}
 use Rattle.rules.specs.Words.{tab}
 use Rattle.rules.proofs.Words.{tab-get}
+use Rattle.ring.proofs.Parts.{tab-same}
+use Rattle.site.specs.declared.Cluster.{Cluster}
+use Rattle.site.specs.Site.{none}
 use Rattle.octets.specs.Record.{stateWords, stateAt}
 use Rattle.octets.proofs.Laws.{length-bits}
 use Rattle.octets.proofs.Inverse.{state-back, words-of-state}
-use Rattle.site.specs.declared.Cluster.{Cluster}
-use Rattle.site.specs.Site.{none}
 use Rattle.cabinet.specs.Run.{recordPlace, recordWords, recordFits, ringWords, heldFits, clusterAt, fiveOf, recordsOf, heldOf}
 use Rattle.cabinet.proofs.Runs.{Fit, fit-of, records-snoc}
 

@@ -116,9 +116,9 @@ fn write_five(held: &mut [u64], z: Sizes, depth: u8, met: usize, taken: usize)
     requires { ⌜ 5 ≤ length (now held) ⌝ }
     ensures { λ r. ⌜ now (held .exit) ≡ put (now (held .entry)) 0 (fiveOf z depth met taken) ⌝ }
 {
-    held[0] = octets::wide(z.n);
+    held[0] = words::wide(z.n);
     held[1] = octets::long(z.room.0);
-    held[2] = octets::wide(depth);
+    held[2] = words::wide(depth);
     held[3] = met as u64;
     held[4] = taken as u64;
 }
@@ -153,7 +153,7 @@ fn write_ring(held: &mut [u64], at: usize, q: [u8; 49])
 {
     let mut i: usize = 0;
     while i < 49 {
-        held[at + i] = octets::wide(q[i]);
+        held[at + i] = words::wide(q[i]);
         i += 1;
     }
 }

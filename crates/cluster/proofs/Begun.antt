@@ -1,5 +1,4 @@
 -- A fresh cluster: what the rules start with, and well formed.
-use Rattle.rules.proofs.WellFormed.{sized}
 use Prim.Native.Nat.{ℕ, zero, suc, _-_, _*_, _≤_, _<_}
 use mathlib.Core.Path.{_≡_, refl, sym, ap, _∙_}
 use mathlib.Core.Logic.{inl, inr, ⊎-elim}
@@ -11,6 +10,7 @@ use borrow.Author.Tests.{lt-ltb, le-ltb}
 use Rattle.base.specs.Choice.{pick}
 use Rattle.base.specs.declared.Sizes.{Sizes}
 use Rattle.base.proofs.Choice.{le-or-lt, both-yes, clash}
+use Rattle.rules.proofs.WellFormed.{sized}
 use Rattle.rules.specs.declared.State.{State}
 use Rattle.rules.specs.Server.{fresh, wellFormed}
 use Rattle.rules.specs.Cluster.{start}

@@ -1,8 +1,8 @@
 -- Nothing delivered is lost.
-use Rattle.base.specs.Transaction.{Begins}
 use Prim.Native.Nat.{ℕ}
 use mathlib.Core.Path.{_≡_, refl}
 use mathlib.Core.List.{List, [], _∷_, _++_}
+use Rattle.base.specs.Transaction.{Begins}
 use Rattle.base.specs.declared.Sizes.{Sizes}
 use Rattle.rules.specs.Cluster.{Cluster, start, Event, event, after, play}
 use Rattle.ledger.specs.Delivered.{deliveredOf}

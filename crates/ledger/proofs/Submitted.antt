@@ -1,5 +1,4 @@
 -- What lies in a log past its initial history was submitted exactly once; so was what is delivered.
-use Rattle.base.proofs.Entry.{same-true, same-self}
 use Prim.Native.Nat.{ℕ, suc, _+_, _-_, _≤_, _<_}
 use mathlib.Core.Path.{_≡_, refl, sym, ap, _∙_}
 use mathlib.Core.Bool.{Bool, true, false}
@@ -8,12 +7,13 @@ use native.Mathlib.Omega.{arith}
 use lib.Dec.{eqb}
 use lib.ListN.{length, take, getD, length-take, length-drop, length-map, List·getD-map}
 use lib.Seq.{take-take, getD-take, getD-drop}
+use Rattle.base.proofs.Entry.{same-true, same-self}
 use Rattle.base.specs.Choice.{pick}
 use Rattle.base.specs.Transaction.{Hist, none, ident, idAt}
 use Rattle.base.specs.Record.{Rec, E, B, «V», X, Entry, entry, same}
 use Rattle.base.proofs.History.{agree-low}
-use Rattle.rules.specs.Cluster.{Cluster}
 use Rattle.base.proofs.Choice.{tests, passes, case, both-true, both-yes}
+use Rattle.rules.specs.Cluster.{Cluster}
 use Rattle.ledger.specs.Delivered.{deliveredOf}
 use Rattle.ledger.specs.Records.{count, isB, numbered, Submitted, gather, begunBy, begunIn}
 use Rattle.ledger.proofs.Ghost.{Ghost, Good, Origin, own}

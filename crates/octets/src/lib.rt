@@ -12,25 +12,19 @@ ghost use Rattle.rules.specs.Words.{put};
 ghost use Rattle.octets.specs.Bytes.{wordAt, wordsOf, eight, bytesOf, under};
 ghost use Rattle.octets.specs.Record.{RECORD, bit, bits, seven, flags, tenOf, stateWords, stateAt, fits};
 
-pub fn wide(x: u8) -> u64
-    ensures { λ r. ⌜ (r ≡ x) × (r < 256) ⌝ }
-{
-    x as u64
-}
-
 // The word that starts at byte `at`.
 fn word_at(b: &[u8], at: usize) -> u64
     requires { ⌜ at + 8 ≤ length (now b) ⌝ }
     ensures { λ r. ⌜ r ≡ wordAt (now (b .entry)) at ⌝ }
 {
-    wide(b[at])
-        + 256 * wide(b[at + 1])
-        + 65536 * wide(b[at + 2])
-        + 16777216 * wide(b[at + 3])
-        + 4294967296 * wide(b[at + 4])
-        + 1099511627776 * wide(b[at + 5])
-        + 281474976710656 * wide(b[at + 6])
-        + 72057594037927936 * wide(b[at + 7])
+    words::wide(b[at])
+        + 256 * words::wide(b[at + 1])
+        + 65536 * words::wide(b[at + 2])
+        + 16777216 * words::wide(b[at + 3])
+        + 4294967296 * words::wide(b[at + 4])
+        + 1099511627776 * words::wide(b[at + 5])
+        + 281474976710656 * words::wide(b[at + 6])
+        + 72057594037927936 * words::wide(b[at + 7])
 }
 
 // A word into eight lent bytes.
@@ -211,9 +205,9 @@ fn put_ten(w: &mut [u64], s: State)
     requires { ⌜ 10 ≤ length (now w) ⌝ }
     ensures { λ r. ⌜ now (w .exit) ≡ put (now (w .entry)) 0 (tenOf s) ⌝ }
 {
-    w[0] = wide(s.me);
-    w[1] = wide(s.stage);
-    w[2] = wide(s.oracle);
+    w[0] = words::wide(s.me);
+    w[1] = words::wide(s.stage);
+    w[2] = words::wide(s.oracle);
     w[3] = long(s.p.0);
     w[4] = long(s.a.0);
     w[5] = long(s.d.0);

@@ -1,6 +1,4 @@
 -- The calm run of the code: naming, settling, a submission and settling again, one after the other.
-use Rattle.rules.proofs.WellFormed.{sized}
-use Rattle.turn.proofs.Outcomes.{outcome-done, outcome-after}
 use Prim.Native.Nat.{ℕ, _≤_}
 use mathlib.Core.Path.{_≡_, refl, sym, ap, _∙_, subst}
 use mathlib.Core.Bool.{Bool, true, false}
@@ -11,17 +9,19 @@ use Rattle.base.specs.Choice.{pick, both}
 use Rattle.base.specs.Refusals.{STATE}
 use Rattle.base.specs.declared.Sizes.{Sizes}
 use Rattle.base.proofs.Choice.{clash, both-true}
+use Rattle.rules.proofs.WellFormed.{sized}
 use Rattle.rules.specs.Server.{goodSizes}
 use Rattle.rules.specs.Cluster.{Cluster as Servers, Event, S, event, after, play, isDone}
 use Rattle.site.specs.Site.{Site, siteOf, clusterOf, goodSite}
-use Rattle.turn.specs.Events.{meant, eventOf, wholeEvent, outcomeOf}
-use Rattle.cluster.specs.Any.{Happens}
-use Rattle.runs.specs.Runs.{eventsOf, played, tally, goodRun, Runs}
 use Rattle.site.specs.declared.Cluster.{Cluster}
 use Rattle.site.specs.declared.Told.{Told}
-use Rattle.runs.specs.declared.Ran.{Ran}
-use Rattle.turn.specs.declared.Happening.the-variants as happens
 use Rattle.site.proofs.Goods.{fit-facts}
+use Rattle.turn.proofs.Outcomes.{outcome-done, outcome-after}
+use Rattle.turn.specs.Events.{meant, eventOf, wholeEvent, outcomeOf}
+use Rattle.turn.specs.declared.Happening.the-variants as happens
+use Rattle.cluster.specs.Any.{Happens}
+use Rattle.runs.specs.Runs.{eventsOf, played, tally, goodRun, Runs}
+use Rattle.runs.specs.declared.Ran.{Ran}
 use Rattle.pledge.specs.Moves.{names, nameWords, settling, renamed, regained, submission, finished, settles, turned, rested, begun, ended, Moves, Calms}
 use Rattle.pledge.specs.declared.Calmed.{Calmed}
 use Rattle.pledge.proofs.Named.{names-are}

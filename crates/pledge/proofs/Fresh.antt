@@ -1,5 +1,4 @@
 -- The calm run of fresh servers: nothing was submitted before, so x has room, and both of its numbers of deliveries are known.
-use Rattle.rules.proofs.WellFormed.{sized}
 use Prim.Native.Nat.{ℕ, suc, _-_, _≤_, _<_}
 use mathlib.Core.Path.{_≡_, refl, sym, ap, _∙_, subst}
 use mathlib.Core.Logic.{⊎-elim}
@@ -16,6 +15,7 @@ use Rattle.base.specs.Record.{E, «V», Entry, entry, same}
 use Rattle.base.specs.declared.Txn.{Txn}
 use Rattle.base.specs.declared.Sizes.{Sizes}
 use Rattle.base.proofs.Choice.{le-or-lt, clash}
+use Rattle.rules.proofs.WellFormed.{sized}
 use Rattle.rules.specs.Server.{Server, goodSizes, L4}
 use Rattle.rules.specs.Tree.{Res, refused, taken, run}
 use Rattle.rules.specs.Step.{Input, step}
@@ -30,9 +30,9 @@ use Rattle.ledger.proofs.SubmittedOnce.{submitted-once}
 use Rattle.calm.specs.Calm.{below, naming, Lively, end, then}
 use Rattle.site.proofs.Goods.{fit-facts}
 use Rattle.site.specs.Site.{Site, siteOf, clusterOf, goodSite}
-use Rattle.cluster.specs.Any.{goodFresh, Freshly}
 use Rattle.site.specs.declared.Cluster.{Cluster as Held}
 use Rattle.site.specs.declared.Told.{Told}
+use Rattle.cluster.specs.Any.{goodFresh, Freshly}
 use Rattle.pledge.specs.Moves.{othersFrom, names, settles, turned, rested, regained, Leads, Roomy, Calms, Counted}
 use Rattle.pledge.specs.declared.Calmed.{Calmed}
 use Rattle.pledge.proofs.Settled.{eased-lively}

@@ -1,5 +1,4 @@
 -- The calm run of the rules, where settling makes its deliveries: how many there are, and what they leave.
-use Rattle.rules.proofs.WellFormed.{sized}
 use Prim.Native.Nat.{ℕ, _+_, _-_, _*_, _≤_, _<_}
 use mathlib.Core.Path.{_≡_, sym, _∙_, subst}
 use mathlib.Core.Logic.{⊎-elim}
@@ -10,6 +9,7 @@ use lib.ListN.{length}
 use borrow.Author.Tests.{ltb-true}
 use Rattle.base.specs.declared.Sizes.{Sizes}
 use Rattle.base.proofs.Choice.{le-or-lt}
+use Rattle.rules.proofs.WellFormed.{sized}
 use Rattle.rules.specs.Server.{goodSizes}
 use Rattle.rules.specs.Cluster.{Cluster, Event, S, start, event, play, isDone}
 use Rattle.calm.specs.Calm.{below, Others, Lively, Recovered, Established, Round, submitted-entry}

@@ -1,6 +1,4 @@
 -- Many events, one after the other: what is left of them, from each on.
-use Rattle.rules.proofs.WellFormed.{sized}
-use Rattle.turn.proofs.Outcomes.{outcome-done, outcome-after}
 use Prim.Native.Nat.{ℕ, zero, suc, _+_, _-_, _*_, _/_, _%_, _≤_, _<_}
 use mathlib.Core.Path.{_≡_, refl, sym, ap, _∙_, subst}
 use mathlib.Core.Logic.{_≢_}
@@ -15,20 +13,22 @@ use borrow.Author.Tests.{eq-eqb, ne-eqb, le-leb, lt-leb, lt-ltb, le-ltb}
 use Rattle.base.specs.Choice.{pick, both}
 use Rattle.base.specs.declared.Sizes.{Sizes}
 use Rattle.base.proofs.Choice.{clash, both-yes, both-no}
+use Rattle.rules.proofs.WellFormed.{sized}
 use Rattle.rules.specs.Cluster.{Cluster as Servers, Event, event, after, play, isDone}
 use Rattle.ring.specs.declared.Rings.{Rings}
 use Rattle.ring.specs.Queue.{count, chans, Chan}
 use Rattle.ring.proofs.Laws.{chan-count}
 use Rattle.site.specs.Site.{Site, siteOf, clusterOf, goodSite, Good}
-use Rattle.turn.specs.Events.{meant, eventOf}
-use Rattle.turn.specs.Turns.{afterOf, Turned}
-use Rattle.runs.specs.Runs.{named, eventAt, eventsFrom, within, eventsOf, played, tally, goodRun, On, Does, refusedOf, Runs, channelAt, lowest, lowestRing, easings}
 use Rattle.site.specs.declared.Cluster.{Cluster}
 use Rattle.site.specs.declared.Told.{Told}
-use Rattle.runs.specs.declared.Ran.{Ran}
+use Rattle.site.proofs.Goods.{good-shown}
+use Rattle.turn.proofs.Outcomes.{outcome-done, outcome-after}
+use Rattle.turn.specs.Events.{meant, eventOf}
+use Rattle.turn.specs.Turns.{afterOf, Turned}
 use Rattle.turn.specs.declared.Happening.{Happening}
 use Rattle.turn.specs.declared.Happening.the-variants as happens
-use Rattle.site.proofs.Goods.{good-shown}
+use Rattle.runs.specs.Runs.{named, eventAt, eventsFrom, within, eventsOf, played, tally, goodRun, On, Does, refusedOf, Runs, channelAt, lowest, lowestRing, easings}
+use Rattle.runs.specs.declared.Ran.{Ran}
 
 -- ---- an event in its words
 

@@ -1,5 +1,4 @@
 -- A line of the script: what the rules leave in the trace is what is written.
-use Rattle.turn.proofs.Outcomes.{outcome-after}
 use Prim.Native.Nat.{ℕ, _+_, _-_, _≤_, _<_}
 use mathlib.Core.Path.{_≡_, sym, ap, _∙_, subst}
 use mathlib.Core.Logic.{_≢_}
@@ -22,17 +21,18 @@ use Rattle.rules.specs.Step.{Input}
 use Rattle.rules.specs.Cluster.{Cluster as Servers, Channels, Event, O, R, D, S, told, done, at, hand, event, after, enters, begun, newly, records}
 use Rattle.rules.specs.Words.{txns, serverOf, goodState}
 use Rattle.rules.proofs.Words.{length-txns, take-txns}
-use Rattle.ring.specs.Queue.{goodRings}
 use Rattle.server.proofs.Laws.{facts}
+use Rattle.ring.specs.Queue.{goodRings}
 use Rattle.site.specs.declared.Cluster.{Cluster}
 use Rattle.site.specs.declared.Told.{Told}
 use Rattle.site.specs.Parts.{part}
 use Rattle.site.specs.Site.{Site, siteOf, recordAt, seated, serverAt, clusterOf, goodSeat, fitting, goodSite}
+use Rattle.site.proofs.Seats.{part-in}
+use Rattle.site.proofs.Goods.{Fits, fit-facts}
+use Rattle.turn.proofs.Outcomes.{outcome-after}
 use Rattle.turn.specs.Events.{wholeEvent, actor, asks, outcomeOf}
 use Rattle.turn.specs.Turns.{afterOf}
 use Rattle.cluster.specs.Any.{Happens}
-use Rattle.site.proofs.Seats.{part-in}
-use Rattle.site.proofs.Goods.{Fits, fit-facts}
 use Rattle.script.specs.Text.{bytesOf, Wrote}
 use Rattle.scribe.specs.Telling.{text, marked, notes, entered, doneBy, Seen, said, Tells}
 use Rattle.scribe.proofs.Notes.{text-one, notes-are}

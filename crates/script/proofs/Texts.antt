@@ -1,5 +1,4 @@
 -- Laws of writing: digits, and bytes put one after the other.
-use Rattle.rules.proofs.Words.{put-put}
 use Prim.Native.Nat.{ℕ, zero, suc, _+_, _*_, _/_, _%_, _≤_, _<_}
 use mathlib.Core.Path.{_≡_, sym, ap, _∙_}
 use mathlib.Core.List.{List, [], _∷_, _++_, append-assoc}
@@ -10,6 +9,7 @@ use lib.Seq.{set-split}
 use borrow.Author.Tests.{lt-ltb, le-ltb, ltb-true, ltb-false}
 use Rattle.base.specs.Choice.{pick}
 use Rattle.base.proofs.Choice.{case, pick-at}
+use Rattle.rules.proofs.Words.{put-put}
 use Rattle.rules.specs.Words.{put}
 use Rattle.script.specs.Text.{digitsIn, digits, spaced, ending, two, four, header, Wrote}
 

@@ -32,12 +32,6 @@ pub enum Note {
     Refuses(u64, u64),
 }
 
-fn wide(x: u8) -> u64
-    ensures { λ r. ⌜ (r ≡ x) × (r < 256) ⌝ }
-{
-    x as u64
-}
-
 // The place of the first space from `from` on, or the end.
 fn space(line: &[u8], from: usize) -> usize
     requires { ⌜ from ≤ length (now line) ⌝ }
@@ -63,7 +57,7 @@ fn shift(v: u64, b: u8) -> Value
     if 57 < b {
         return Value::Refused;
     }
-    let d = wide(b) - 48;
+    let d = words::wide(b) - 48;
     if (MAX - d) / 10 < v {
         return Value::Refused;
     }
@@ -240,7 +234,7 @@ pub fn write_header(out: &mut [u8], at: usize, n: u8) -> usize
 {
     out[at] = b'T';
     out[at + 1] = b'R';
-    write_two(out, at + 2, b'C', 1, wide(n))
+    write_two(out, at + 2, b'C', 1, words::wide(n))
 }
 
 // One record with its newline.

@@ -1,5 +1,4 @@
--- A cluster that is well formed: tests and facts; and a fresh one.
-use Rattle.rules.proofs.WellFormed.{sized}
+-- A cluster that is well formed: tests and facts.
 use Prim.Native.Nat.{ℕ, _+_, _-_, _*_, _≤_, _<_}
 use mathlib.Core.Path.{_≡_, refl, sym, ap, _∙_}
 use mathlib.Core.Logic.{_≢_, ⊎-elim}
@@ -8,10 +7,11 @@ use mathlib.Core.List.{List}
 use native.Mathlib.Omega.{arith}
 use lib.Dec.{eqb, leb}
 use lib.ListN.{length, take, drop}
-use borrow.Author.Tests.{eqb-true, leb-true, eq-eqb, ne-eqb, le-leb}
+use borrow.Author.Tests.{lt-leb, eqb-true, leb-true, eq-eqb, ne-eqb, le-leb}
 use Rattle.base.specs.Choice.{both, allBelow}
 use Rattle.base.specs.declared.Sizes.{Sizes}
-use Rattle.base.proofs.Choice.{clash, case, both-true, both-yes, eq-or, all-at, all-of}
+use Rattle.base.proofs.Choice.{both-no, clash, case, both-true, both-yes, eq-or, all-at, all-of}
+use Rattle.rules.proofs.WellFormed.{sized}
 use Rattle.rules.specs.Server.{goodSizes}
 use Rattle.rules.specs.Words.{slotSize, goodState}
 use Rattle.ring.specs.Queue.{goodRings, queueSize}
@@ -20,6 +20,20 @@ use Rattle.site.specs.Site.{Site, siteOf, recordAt, goodSeat, goodLens, 
 use Rattle.site.specs.declared.Cluster.{Cluster}
 
 -- ---- sizes
+
+-- where b told of the sizes alone
+module _ (z : Sizes) (depth : ℕ) (b : Bool) (e : b ≡ goodSizes z) where
+  pub ranges-not : b ≡ false → false ≡ both (goodSizes z) (both (leb 2 depth) (leb depth 16))
+  unfolding both
+  ranges-not f = rw (← e, f)
+
+  pub ranges-low : depth < 2 → false ≡ both (goodSizes z) (both (leb 2 depth) (leb depth 16))
+  unfolding both
+  ranges-low h = sym (both-no (goodSizes z) _ (rw (lt-leb 2 depth h)))
+
+  pub ranges-are : b ≡ true → 2 ≤ depth → leb depth 16 ≡ both (goodSizes z) (both (leb 2 depth) (leb depth 16))
+  unfolding both
+  ranges-are f h = rw (← e, f, le-leb 2 depth h)
 
 pub ranges-facts : (z : Sizes) (depth : ℕ) (b : Bool) → b ≡ both (goodSizes z) (both (leb 2 depth) (leb depth 16)) → b ≡ true → (goodSizes z ≡ true) × ((2 ≤ depth) × (depth ≤ 16))
 ranges-facts z depth b e t =

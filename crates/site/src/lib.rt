@@ -29,19 +29,10 @@ pub struct Told {
 }
 
 // Whether sizes and depth are in their ranges.
-fn good_sizes(z: Sizes, depth: u8) -> bool
+fn in_ranges(z: Sizes, depth: u8) -> bool
     ensures { λ b. ⌜ b ≡ both (goodSizes z) (both (leb 2 depth) (leb depth 16)) ⌝ }
 {
-    if z.n < 3 {
-        return false;
-    }
-    if 7 < z.n {
-        return false;
-    }
-    if z.room.0 < 1 {
-        return false;
-    }
-    if 64 < z.room.0 {
+    if !sound::good_sizes(z) {
         return false;
     }
     if depth < 2 {
@@ -73,7 +64,7 @@ fn good_lens(z: Sizes, depth: u8, h: usize, k: usize, q: usize, o: usize) -> boo
 pub fn may_lend(z: Sizes, depth: u8, h: usize, k: usize, q: usize, o: usize) -> bool
     ensures { λ b. ⌜ b ≡ fitting z depth h k q o ⌝ }
 {
-    if !good_sizes(z, depth) {
+    if !in_ranges(z, depth) {
         return false;
     }
     good_lens(z, depth, h, k, q, o)

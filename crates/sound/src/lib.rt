@@ -17,7 +17,7 @@ ghost use Rattle.rules.specs.Words.{has, txns, serverOf, goodState};
 ghost use Rattle.sound.specs.Parts.{durOf, volOf, accepted, promised, another, ifThen, countFits, setsLive, goodVol, Lent};
 
 // Servers 3 to 7, room 1 to 64.
-fn good_sizes(z: Sizes) -> bool
+pub fn good_sizes(z: Sizes) -> bool
     ensures { λ r. ⌜ r ≡ goodSizes z ⌝ }
 {
     if z.n < 3 {

@@ -1,5 +1,4 @@
 -- Tests joined, transactions compared, lists with one more.
-use Rattle.base.proofs.Entry.{same-true, same-self}
 use Prim.Native.Nat.{ℕ, suc, _≤_, _<_}
 use mathlib.Core.Path.{_≡_, refl, sym, _∙_}
 use mathlib.Core.Bool.{Bool, true, false}
@@ -9,6 +8,7 @@ use lib.Dec.{eqb, ltb}
 use lib.ListN.{length, getD, length-append, List·getD-append}
 use lib.Seq.{getD-at}
 use borrow.Author.Tests.{eqb-true, ltb-true, eq-eqb, lt-ltb, le-ltb}
+use Rattle.base.proofs.Entry.{same-true, same-self}
 use Rattle.base.specs.Choice.{pick, both, either}
 use Rattle.base.specs.Record.{Entry, «V», same}
 use Rattle.base.proofs.Choice.{tests, case, clash, both-true}

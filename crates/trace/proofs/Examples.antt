@@ -1,8 +1,8 @@
 -- Traces in words, and their answers: the paper's own, one for each rule, and the refusals.
-use Rattle.base.specs.Record.{same}
 use Prim.Native.Nat.{ℕ}
 use mathlib.Core.Path.{_≡_, refl}
 use mathlib.Core.List.{List, [], _∷_}
+use Rattle.base.specs.Record.{same}
 use Rattle.base.specs.Choice.{pick, both, either, allBelow}
 use Rattle.trace.specs.Rules.{Answer, keeps, breaks, refuses, less, broken, fit, answer}
 use Rattle.trace.specs.Words.{recAt, knownAt, readable}

@@ -1,5 +1,4 @@
 -- Rule 5 over a past: what one more record does.
-use Rattle.base.proofs.Entry.{same-true, same-self}
 use Prim.Native.Nat.{ℕ}
 use mathlib.Core.Path.{_≡_, refl, sym, ap, _∙_}
 use mathlib.Core.Bool.{Bool, true, false}
@@ -7,6 +6,7 @@ use mathlib.Core.List.{[], _∷_}
 use native.Mathlib.Omega.{arith}
 use lib.Dec.{eqb, leb}
 use borrow.Author.Tests.{le-leb, lt-leb}
+use Rattle.base.proofs.Entry.{same-true, same-self}
 use Rattle.base.specs.Choice.{pick, both, either}
 use Rattle.base.specs.Record.{Entry, E, B, «V», X, same}
 use Rattle.base.proofs.Choice.{tests, case, clash, both-true, both-yes, either-right, either-false, both-right}

@@ -1,5 +1,4 @@
 -- Rule 4 and the one longest sequence.
-use Rattle.base.proofs.Entry.{same-true, same-self}
 use Prim.Native.Nat.{ℕ, zero, suc, _≤_, _<_}
 use mathlib.Core.Path.{_≡_, refl, sym, _∙_}
 use mathlib.Core.Bool.{Bool, true, false}
@@ -8,6 +7,7 @@ use native.Mathlib.Omega.{arith}
 use lib.Dec.{eqb, leb}
 use lib.ListN.{length, take, getD}
 use borrow.Author.Tests.{eqb-true, leb-true}
+use Rattle.base.proofs.Entry.{same-true, same-self}
 use Rattle.base.specs.Choice.{pick, both, either, allBelow}
 use Rattle.base.specs.Record.{Entry, E, B, «V», X, same}
 use Rattle.base.proofs.Choice.{tests, case, clash, both-no, either-right, all-of}

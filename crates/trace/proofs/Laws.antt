@@ -1,5 +1,4 @@
 -- One law for each answer of a record's step.
-use Rattle.base.proofs.Entry.{same-true}
 use Prim.Native.Nat.{ℕ, zero, suc, _+_, _-_, _≤_, _<_}
 use mathlib.Core.Path.{_≡_, refl, sym, ap, _∙_, subst}
 use mathlib.Core.Bool.{Bool, true, false, not}
@@ -9,6 +8,7 @@ use lib.Dec.{eqb, leb, ltb}
 use lib.ListN.{length, take, drop, getD, set, length-append, length-map, length-set, take-append-drop}
 use lib.Seq.{getD-take, getD-set-same, getD-set-other, take-suc-set, set-split}
 use borrow.Author.Tests.{eqb-false, eq-eqb, ne-eqb, le-leb, lt-leb, lt-ltb, le-ltb, leb-true}
+use Rattle.base.proofs.Entry.{same-true}
 use Rattle.base.specs.Choice.{pick, both, either, upd}
 use Rattle.base.specs.Record.{Entry, Rec, E, B, «V», X, same}
 use Rattle.base.proofs.Choice.{tests, case, clash, eq-cases, both-true}

@@ -1,5 +1,4 @@
 -- The fold gives the definition's answer.
-use Rattle.base.proofs.Entry.{same-true}
 use Prim.Native.Nat.{ℕ, suc}
 use mathlib.Core.Path.{_≡_, refl, sym, ap, _∙_, subst}
 use mathlib.Core.Bool.{Bool, true, false, not}
@@ -8,6 +7,7 @@ use native.Mathlib.Omega.{arith}
 use lib.Dec.{eqb, leb, ltb}
 use lib.ListN.{length, getD}
 use borrow.Author.Tests.{eqb-true, leb-true, leb-false, ltb-true}
+use Rattle.base.proofs.Entry.{same-true}
 use Rattle.base.specs.Choice.{pick, both, either}
 use Rattle.base.specs.Record.{Entry, Rec, E, B, «V», X, same}
 use Rattle.base.proofs.Choice.{case, both-true, all-of, both-right}

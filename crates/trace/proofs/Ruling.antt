@@ -1,5 +1,4 @@
 -- What one more record breaks, while the trace so far breaks nothing; and the latest record of an epoch.
-use Rattle.base.proofs.Entry.{same-true}
 use Prim.Native.Nat.{ℕ, zero, suc, _+_, _≤_, _<_}
 use mathlib.Core.Path.{_≡_, refl, sym, ap, _∙_, subst}
 use mathlib.Core.Bool.{Bool, true, false, not}
@@ -9,6 +8,7 @@ use lib.Dec.{eqb, leb, ltb}
 use lib.ListN.{length, getD, length-append, length-map, List·getD-append}
 use lib.Seq.{getD-at}
 use borrow.Author.Tests.{eqb-true, eqb-false, eq-eqb, ne-eqb, lt-ltb}
+use Rattle.base.proofs.Entry.{same-true}
 use Rattle.base.specs.Choice.{pick, both, either, upd}
 use Rattle.base.specs.Record.{Entry, Rec, E, B, «V», X, same}
 use Rattle.base.proofs.Choice.{tests, case, clash, eq-cases, both-true, either-false, either-right, not-is}

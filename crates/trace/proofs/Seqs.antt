@@ -1,5 +1,4 @@
 -- What the longest sequence and the counts mean while no rule is broken, and the tests of rules 4 and 5.
-use Rattle.base.proofs.Entry.{same-true}
 use Prim.Native.Nat.{ℕ, zero, suc, _≤_, _<_}
 use mathlib.Core.Path.{_≡_, refl, sym, ap, _∙_, subst}
 use mathlib.Core.Logic.{_≢_}
@@ -10,6 +9,7 @@ use lib.Dec.{eqb, leb, ltb}
 use lib.ListN.{length, take, getD, length-append}
 use lib.Seq.{take-suc, take-append-le, take-all}
 use borrow.Author.Tests.{eqb-true, leb-true, leb-false, ltb-true, ltb-false, eq-eqb, ne-eqb, le-leb, lt-leb}
+use Rattle.base.proofs.Entry.{same-true}
 use Rattle.base.specs.Choice.{pick, both, either, upd}
 use Rattle.base.specs.Record.{Entry, «V», same}
 use Rattle.base.proofs.Choice.{tests, case, clash, eq-cases, either-right}

@@ -191,3 +191,10 @@ pub fn choose<'a>(cand: &'a [u64], m: usize, msg: &'a [u64], n: usize, wins: boo
 {
     if wins { &msg[0..n] } else { &cand[0..m] }
 }
+
+// A byte as a word.
+pub fn wide(x: u8) -> u64
+    ensures { λ r. ⌜ (r ≡ x) × (r < 256) ⌝ }
+{
+    x as u64
+}

@@ -1,11 +1,16 @@
-use Rattle.base.proofs.Choice.{not-no}
 use Prim.Native.Nat.{_-_}
 use mathlib.Core.Path.{sym, _∙_}
 use native.Mathlib.Omega.{arith}
 use lib.ListN.{length, length-set}
-use denote.Ref.{now}
-use Rattle.cabinet.proofs.Laws.{sized-says, is-lent, bad-size, bad-slot, bad-record, refused, count-fits, done}
 use borrow.Author.Needs.{needs}
+use denote.Ref.{now}
+use Rattle.base.proofs.Choice.{not-no}
+use Rattle.octets.proofs.load.Reads as load-reads
+use Rattle.octets.proofs.read_state.Reads as read-state-reads
+use Rattle.octets.proofs.record_fits.Reads as record-fits-reads
+use Rattle.octets.proofs.save.Reads as save-reads
+use Rattle.octets.proofs.write_state.Reads as write-state-reads
+use Rattle.cabinet.proofs.Laws.{sized-says, is-lent, bad-size, bad-slot, bad-record, refused, count-fits, done}
 use Rattle.cabinet.proofs.zab_step.Statement.{statement}
 use Rattle.cabinet.proofs.zab_step.Tie as tie
 use Rattle.cabinet.proofs.zab_step.Reads as reads
@@ -16,11 +21,6 @@ use Rattle.cabinet.proofs.lent_words.Reads as lent-words-reads
 use Rattle.cabinet.proofs.sizes_fit.Reads as sizes-fit-reads
 use Rattle.cabinet.proofs.slot_fits.Reads as slot-fits-reads
 use Rattle.cabinet.proofs.step_bytes.Reads as step-bytes-reads
-use Rattle.octets.proofs.load.Reads as load-reads
-use Rattle.octets.proofs.read_state.Reads as read-state-reads
-use Rattle.octets.proofs.record_fits.Reads as record-fits-reads
-use Rattle.octets.proofs.save.Reads as save-reads
-use Rattle.octets.proofs.write_state.Reads as write-state-reads
 
 -- src/lib.rt:138:9
 sizes-fit-requires : tie.Need-sizes-fit-requires

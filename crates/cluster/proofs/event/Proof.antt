@@ -1,19 +1,19 @@
-use Rattle.rules.proofs.State as state
-use borrow.Author.Needs.{length-unmapped}
 use Prim.Native.Nat.{ℕ}
 use mathlib.Core.Path.{_≡_, sym, _∙_}
 use lib.ListN.{length, length-map}
-use Rattle.base.proofs.Choice.{not-is, not-no}
-use Rattle.turn.specs.Events.{meant}
-use Rattle.site.proofs.Goods.{good-lent}
-use Rattle.cluster.proofs.Events.{happens-refused, happens-does}
+use borrow.Author.Needs.{length-unmapped}
 use borrow.Author.Needs.{needs}
+use Rattle.base.proofs.Choice.{not-is, not-no}
+use Rattle.rules.proofs.State as state
+use Rattle.site.proofs.Goods.{good-lent}
+use Rattle.site.proofs.good.Reads as good-reads
+use Rattle.turn.specs.Events.{meant}
+use Rattle.turn.proofs.turn.Reads as turn-reads
+use Rattle.cluster.proofs.Events.{happens-refused, happens-does}
 use Rattle.cluster.proofs.event.Statement.{statement}
 use Rattle.cluster.proofs.event.Tie as tie
 use Rattle.cluster.proofs.event.Reads as reads
 use Rattle.cluster.proofs.event.Lts as lts
-use Rattle.site.proofs.good.Reads as good-reads
-use Rattle.turn.proofs.turn.Reads as turn-reads
 
 -- src/lib.rt:61:9
 good-requires : tie.Need-good-requires

@@ -1,13 +1,13 @@
-use Rattle.cluster.proofs.Begun.{fresh-refused, fresh-does}
-use Rattle.base.proofs.Choice.{not-is, not-no}
 use borrow.Author.Needs.{needs}
+use Rattle.base.proofs.Choice.{not-is, not-no}
+use Rattle.words.proofs.clear_from.Reads as clear-from-reads
+use Rattle.site.proofs.may_lend.Reads as may-lend-reads
+use Rattle.cluster.proofs.Begun.{fresh-refused, fresh-does}
 use Rattle.cluster.proofs.fresh.Statement.{statement}
 use Rattle.cluster.proofs.fresh.Tie as tie
 use Rattle.cluster.proofs.fresh.Reads as reads
 use Rattle.cluster.proofs.fresh.Lts as lts
-use Rattle.site.proofs.may_lend.Reads as may-lend-reads
 use Rattle.cluster.proofs.start.fresh_cluster.Reads as fresh-cluster-reads
-use Rattle.words.proofs.clear_from.Reads as clear-from-reads
 
 -- src/lib.rt:78:9
 fresh-cluster-requires : tie.Need-fresh-cluster-requires

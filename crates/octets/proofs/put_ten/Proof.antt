@@ -10,7 +10,7 @@ use Rattle.octets.proofs.put_ten.Tie as tie
 use Rattle.octets.proofs.put_ten.Reads as reads
 use Rattle.octets.proofs.put_ten.Lts as lts
 use Rattle.octets.proofs.long.Reads as long-reads
-use Rattle.octets.proofs.wide.Reads as wide-reads
+use Rattle.words.proofs.wide.Reads as wide-reads
 
 -- src/lib.rt:214:12
 wide-requires : tie.Need-wide-requires

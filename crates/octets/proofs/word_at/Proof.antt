@@ -5,7 +5,7 @@ use Rattle.octets.proofs.word_at.Statement.{statement}
 use Rattle.octets.proofs.word_at.Tie as tie
 use Rattle.octets.proofs.word_at.Reads as reads
 use Rattle.octets.proofs.word_at.Lts as lts
-use Rattle.octets.proofs.wide.Reads as wide-reads
+use Rattle.words.proofs.wide.Reads as wide-reads
 
 -- src/lib.rt:26:10
 shared-slice-read-wide : tie.Need-shared-slice-read-wide

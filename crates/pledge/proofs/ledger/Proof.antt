@@ -1,11 +1,11 @@
-use Rattle.pledge.proofs.OneLedger.{pledged-not, pledged-run}
 use borrow.Author.Needs.{needs}
+use Rattle.cluster.proofs.fresh.Reads as fresh-reads
+use Rattle.runs.proofs.run.Reads as run-reads
+use Rattle.pledge.proofs.OneLedger.{pledged-not, pledged-run}
 use Rattle.pledge.proofs.ledger.Statement.{statement}
 use Rattle.pledge.proofs.ledger.Tie as tie
 use Rattle.pledge.proofs.ledger.Reads as reads
 use Rattle.pledge.proofs.ledger.Lts as lts
-use Rattle.cluster.proofs.fresh.Reads as fresh-reads
-use Rattle.runs.proofs.run.Reads as run-reads
 
 -- src/lib.rt:19:9
 fresh-requires : tie.Need-fresh-requires

@@ -1,19 +1,19 @@
-use Rattle.ring.proofs.Laws.{square}
 use Prim.Native.Nat.{_-_, _*_, _≤_}
 use mathlib.Core.Path.{_≡_, ap}
 use native.Mathlib.Omega.{arith}
 use lib.ListN.{length}
-use Rattle.replay.proofs.Laws.{wrote-in}
-use Rattle.site.specs.declared.Cluster.{Cluster}
 use borrow.Author.Needs.{needs}
+use Rattle.ring.proofs.Laws.{square}
+use Rattle.site.specs.declared.Cluster.{Cluster}
+use Rattle.cluster.proofs.fresh.Reads as fresh-reads
+use Rattle.script.proofs.write_header.Reads as write-header-reads
+use Rattle.io.proofs.write_all.Reads as write-all-reads
+use Rattle.replay.proofs.Laws.{wrote-in}
 use Rattle.replay.proofs.begin.Statement.{statement}
 use Rattle.replay.proofs.begin.Tie as tie
 use Rattle.replay.proofs.begin.Reads as reads
 use Rattle.replay.proofs.begin.Lts as lts
-use Rattle.cluster.proofs.fresh.Reads as fresh-reads
-use Rattle.io.proofs.write_all.Reads as write-all-reads
 use Rattle.replay.proofs.sizes.Reads as sizes-reads
-use Rattle.script.proofs.write_header.Reads as write-header-reads
 
 -- src/main.rt:61:13
 mul-w : tie.Need-mul-w

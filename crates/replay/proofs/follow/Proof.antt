@@ -1,18 +1,18 @@
-use Rattle.ring.proofs.Laws.{square}
 use Prim.Native.Nat.{_-_, _*_, _≤_}
 use mathlib.Core.Path.{_≡_, ap}
 use native.Mathlib.Omega.{arith}
 use lib.ListN.{length}
-use Rattle.replay.proofs.Laws.{wrote-in}
-use Rattle.base.specs.declared.Sizes.{Sizes}
 use borrow.Author.Needs.{needs}
+use Rattle.base.specs.declared.Sizes.{Sizes}
+use Rattle.ring.proofs.Laws.{square}
+use Rattle.scribe.proofs.tell.Reads as tell-reads
+use Rattle.io.proofs.write_all.Reads as write-all-reads
+use Rattle.replay.proofs.Laws.{wrote-in}
 use Rattle.replay.proofs.follow.Statement.{statement}
 use Rattle.replay.proofs.follow.Tie as tie
 use Rattle.replay.proofs.follow.Reads as reads
 use Rattle.replay.proofs.follow.Lts as lts
-use Rattle.io.proofs.write_all.Reads as write-all-reads
 use Rattle.replay.proofs.counted.Reads as counted-reads
-use Rattle.scribe.proofs.tell.Reads as tell-reads
 
 -- src/main.rt:89:13
 cast-k : tie.Need-cast-k

@@ -1,19 +1,19 @@
-use Rattle.rules.proofs.State as state
-use borrow.Author.Needs.{length-unmapped}
 use Prim.Native.Nat.{ℕ, _/_, _<_}
 use mathlib.Core.Path.{_≡_, sym, _∙_}
 use native.Mathlib.Omega.{arith}
 use lib.ListN.{length, length-map}
+use borrow.Author.Needs.{length-unmapped}
+use borrow.Author.Needs.{needs}
 use Rattle.base.proofs.Choice.{not-is, not-no}
+use Rattle.rules.proofs.State as state
 use Rattle.site.specs.Site.{siteOf}
 use Rattle.site.proofs.Goods.{good-lent}
+use Rattle.site.proofs.good.Reads as good-reads
 use Rattle.runs.proofs.Series.{runs-refused, run-unsound, run-uneven, run-sound, within-all, within-budget, run-does}
-use borrow.Author.Needs.{needs}
 use Rattle.runs.proofs.run.Statement.{statement}
 use Rattle.runs.proofs.run.Tie as tie
 use Rattle.runs.proofs.run.Reads as reads
 use Rattle.runs.proofs.run.Lts as lts
-use Rattle.site.proofs.good.Reads as good-reads
 use Rattle.runs.proofs.many.many.Reads as many-reads
 use Rattle.runs.proofs.many.refused.Reads as refused-reads
 

@@ -1,19 +1,19 @@
-use Rattle.runs.specs.Runs.{easings}
-use Rattle.rules.proofs.State as state
-use borrow.Author.Needs.{length-unmapped}
 use Prim.Native.Nat.{ℕ}
 use mathlib.Core.Path.{_≡_, sym, _∙_}
 use lib.ListN.{length, length-map}
+use borrow.Author.Needs.{length-unmapped}
+use borrow.Author.Needs.{needs}
 use Rattle.base.proofs.Choice.{not-is, not-no}
+use Rattle.rules.proofs.State as state
 use Rattle.site.specs.Site.{siteOf, clusterOf}
 use Rattle.site.proofs.Goods.{good-lent}
+use Rattle.site.proofs.good.Reads as good-reads
+use Rattle.runs.specs.Runs.{easings}
 use Rattle.runs.proofs.Series.{settle-refused, settle-does}
-use borrow.Author.Needs.{needs}
 use Rattle.runs.proofs.settle.Statement.{statement}
 use Rattle.runs.proofs.settle.Tie as tie
 use Rattle.runs.proofs.settle.Reads as reads
 use Rattle.runs.proofs.settle.Lts as lts
-use Rattle.site.proofs.good.Reads as good-reads
 use Rattle.runs.proofs.many.ease.Reads as ease-reads
 use Rattle.runs.proofs.many.refused.Reads as refused-reads
 

@@ -6,7 +6,7 @@ use Rattle.script.proofs.shift.Statement.{statement}
 use Rattle.script.proofs.shift.Tie as tie
 use Rattle.script.proofs.shift.Reads as reads
 use Rattle.script.proofs.shift.Lts as lts
-use Rattle.script.proofs.wide.Reads as wide-reads
+use Rattle.words.proofs.wide.Reads as wide-reads
 
 returns : tie.Need-returns
 returns c = search (shift-low, needs)

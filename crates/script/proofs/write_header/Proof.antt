@@ -8,7 +8,7 @@ use Rattle.script.proofs.write_header.Statement.{statement}
 use Rattle.script.proofs.write_header.Tie as tie
 use Rattle.script.proofs.write_header.Reads as reads
 use Rattle.script.proofs.write_header.Lts as lts
-use Rattle.script.proofs.wide.Reads as wide-reads
+use Rattle.words.proofs.wide.Reads as wide-reads
 use Rattle.script.proofs.write_two.Reads as write-two-reads
 
 slice-write-out : tie.Need-slice-write-out

@@ -1,10 +1,11 @@
-use Rattle.base.proofs.Choice.{not-is, not-no}
 use Prim.Native.Nat.{_-_}
 use mathlib.Core.Path.{refl}
+use borrow.Author.Needs.{needs}
 use denote.Ref.{now}
+use Rattle.base.proofs.Choice.{not-is, not-no}
+use Rattle.sound.proofs.sound.Reads as sound-reads
 use Rattle.server.proofs.Room.{preview-state, preview-lent, preview-can, can-of, Not}
 use Rattle.server.proofs.Laws.{room-of}
-use borrow.Author.Needs.{needs}
 use Rattle.server.proofs.preview.Statement.{statement}
 use Rattle.server.proofs.preview.Tie as tie
 use Rattle.server.proofs.preview.Reads as reads
@@ -12,7 +13,6 @@ use Rattle.server.proofs.preview.Lts as lts
 use Rattle.server.proofs.decide.Reads as decide-reads
 use Rattle.server.proofs.is_lent.Reads as is-lent-reads
 use Rattle.server.proofs.seen.Reads as seen-reads
-use Rattle.sound.proofs.sound.Reads as sound-reads
 
 -- src/lib.rt:215:9
 sound-requires : tie.Need-sound-requires

@@ -1,16 +1,16 @@
-use Rattle.base.proofs.Choice.{not-is, not-no}
 use Prim.Native.Nat.{_-_}
 use mathlib.Core.Path.{refl}
-use denote.Ref.{now}
-use Rattle.server.proofs.Laws.{state-not, lent-not, box-not, known-of, step-does, room-of, No}
 use borrow.Author.Needs.{needs}
+use denote.Ref.{now}
+use Rattle.base.proofs.Choice.{not-is, not-no}
+use Rattle.sound.proofs.sound.Reads as sound-reads
+use Rattle.server.proofs.Laws.{state-not, lent-not, box-not, known-of, step-does, room-of, No}
 use Rattle.server.proofs.step.Statement.{statement}
 use Rattle.server.proofs.step.Tie as tie
 use Rattle.server.proofs.step.Reads as reads
 use Rattle.server.proofs.step.Lts as lts
 use Rattle.server.proofs.is_lent.Reads as is-lent-reads
 use Rattle.server.proofs.step_known.Reads as step-known-reads
-use Rattle.sound.proofs.sound.Reads as sound-reads
 
 -- src/lib.rt:147:9
 sound-requires : tie.Need-sound-requires

@@ -1,14 +1,14 @@
+use borrow.Author.Needs.{needs}
 use Rattle.base.proofs.Choice.{not-is, not-no}
+use Rattle.ring.proofs.good_rings.Reads as good-rings-reads
 use Rattle.site.specs.Site.{siteOf}
 use Rattle.site.proofs.Goods.{site-unfit, site-unringed, site-is, fit-seats}
-use borrow.Author.Needs.{needs}
 use Rattle.site.proofs.good.Statement.{statement}
 use Rattle.site.proofs.good.Tie as tie
 use Rattle.site.proofs.good.Reads as reads
 use Rattle.site.proofs.good.Lts as lts
 use Rattle.site.proofs.good_seats.Reads as good-seats-reads
 use Rattle.site.proofs.may_lend.Reads as may-lend-reads
-use Rattle.ring.proofs.good_rings.Reads as good-rings-reads
 
 -- src/lib.rt:106:9
 may-lend-requires : tie.Need-may-lend-requires

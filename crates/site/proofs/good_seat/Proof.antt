@@ -1,17 +1,17 @@
-use Rattle.rules.proofs.WellFormed.{sized}
 use Prim.Native.Nat.{_+_, _*_, _≤_}
 use mathlib.Core.Path.{refl}
 use native.Mathlib.Omega.{arith}
 use lib.ListN.{length}
+use borrow.Author.Needs.{needs}
+use Rattle.rules.proofs.WellFormed.{sized}
+use Rattle.sound.proofs.sound.Reads as sound-reads
 use Rattle.ring.proofs.Laws.{times}
 use Rattle.site.proofs.Goods.{seat-not, seat-is}
 use Rattle.site.proofs.Seats.{part-in}
-use borrow.Author.Needs.{needs}
 use Rattle.site.proofs.good_seat.Statement.{statement}
 use Rattle.site.proofs.good_seat.Tie as tie
 use Rattle.site.proofs.good_seat.Reads as reads
 use Rattle.site.proofs.good_seat.Lts as lts
-use Rattle.sound.proofs.sound.Reads as sound-reads
 
 -- src/lib.rt:73:13
 mul-s : tie.Need-mul-s

@@ -8,7 +8,7 @@ use Rattle.cabinet.proofs.run.write_five.Tie as tie
 use Rattle.cabinet.proofs.run.write_five.Reads as reads
 use Rattle.cabinet.proofs.run.write_five.Lts as lts
 use Rattle.octets.proofs.long.Reads as long-reads
-use Rattle.octets.proofs.wide.Reads as wide-reads
+use Rattle.words.proofs.wide.Reads as wide-reads
 
 -- src/run.rt:122:15
 wide-requires : tie.Need-wide-requires

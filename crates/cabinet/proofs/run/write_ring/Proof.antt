@@ -10,7 +10,7 @@ use Rattle.cabinet.proofs.run.write_ring.Statement.{statement}
 use Rattle.cabinet.proofs.run.write_ring.Tie as tie
 use Rattle.cabinet.proofs.run.write_ring.Reads as reads
 use Rattle.cabinet.proofs.run.write_ring.Lts as lts
-use Rattle.octets.proofs.wide.Reads as wide-reads
+use Rattle.words.proofs.wide.Reads as wide-reads
 
 abbrev Inv-loop : tie.InvT-loop
 Inv-loop held₀ at q i₀ held i = (i ≤ 49) × ((length held ≡ length held₀) × (held ≡ put held₀ at (take i q)))

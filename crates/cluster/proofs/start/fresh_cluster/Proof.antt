@@ -1,5 +1,5 @@
-use Rattle.cluster.proofs.Begun.{fresh-made}
 use borrow.Author.Needs.{needs}
+use Rattle.cluster.proofs.Begun.{fresh-made}
 use Rattle.cluster.proofs.start.fresh_cluster.Statement.{statement}
 use Rattle.cluster.proofs.start.fresh_cluster.Tie as tie
 use Rattle.cluster.proofs.start.fresh_cluster.Reads as reads

@@ -1,12 +1,12 @@
-use Rattle.rules.proofs.WellFormed.{sized}
-use mathlib.Core.Path.{_∙_}
-use Rattle.runs.proofs.Series.{ease-next}
-use borrow.Author.Needs.{needs}
 use Prim.Native.Nat.{_-_, _*_, _≤_, _<_}
+use mathlib.Core.Path.{_∙_}
 use mathlib.Core.Path.{_≡_, refl}
 use native.Mathlib.Omega.{arith}
 use lib.ListN.{length}
+use borrow.Author.Needs.{needs}
+use Rattle.rules.proofs.WellFormed.{sized}
 use Rattle.ring.proofs.Laws.{times}
+use Rattle.runs.proofs.Series.{ease-next}
 use Rattle.runs.proofs.Series.{Easing, mid-good, ease-start, ease-stop, ease-end}
 use Rattle.runs.proofs.many.ease.Statement.{statement}
 use Rattle.runs.proofs.many.ease.Tie as tie

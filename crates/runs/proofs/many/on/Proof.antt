@@ -1,12 +1,12 @@
-use Rattle.turn.specs.Events.{meant}
-use Rattle.runs.proofs.Series.{on-does}
 use borrow.Author.Needs.{needs}
+use Rattle.turn.specs.Events.{meant}
+use Rattle.turn.proofs.turn.Reads as turn-reads
+use Rattle.runs.proofs.Series.{on-does}
 use Rattle.runs.proofs.many.on.Statement.{statement}
 use Rattle.runs.proofs.many.on.Tie as tie
 use Rattle.runs.proofs.many.on.Reads as reads
 use Rattle.runs.proofs.many.on.Lts as lts
 use Rattle.runs.proofs.many.one_if.Reads as one-if-reads
-use Rattle.turn.proofs.turn.Reads as turn-reads
 
 -- src/many.rt:65:9
 turn-requires : tie.Need-turn-requires

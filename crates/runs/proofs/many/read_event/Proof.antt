@@ -1,5 +1,5 @@
-use Rattle.runs.proofs.Series.{read-oracle, read-restart, read-deliver, read-submit, read-unknown}
 use borrow.Author.Needs.{needs}
+use Rattle.runs.proofs.Series.{read-oracle, read-restart, read-deliver, read-submit, read-unknown}
 use Rattle.runs.proofs.many.read_event.Statement.{statement}
 use Rattle.runs.proofs.many.read_event.Tie as tie
 use Rattle.runs.proofs.many.read_event.Reads as reads

@@ -1,15 +1,15 @@
-use Rattle.base.proofs.Choice.{not-is, not-no}
 use Prim.Native.Nat.{_-_}
 use mathlib.Core.Path.{refl}
-use Rattle.turn.proofs.Laws.{act-room, act-done}
 use borrow.Author.Needs.{needs}
+use Rattle.base.proofs.Choice.{not-is, not-no}
+use Rattle.server.proofs.carry.Reads as carry-reads
+use Rattle.server.proofs.decide.Reads as decide-reads
+use Rattle.turn.proofs.Laws.{act-room, act-done}
 use Rattle.turn.proofs.act.act.Statement.{statement}
 use Rattle.turn.proofs.act.act.Tie as tie
 use Rattle.turn.proofs.act.act.Reads as reads
 use Rattle.turn.proofs.act.act.Lts as lts
 use Rattle.turn.proofs.act.may_send.Reads as may-send-reads
-use Rattle.server.proofs.carry.Reads as carry-reads
-use Rattle.server.proofs.decide.Reads as decide-reads
 
 -- src/act.rt:44:9
 decide-requires : tie.Need-decide-requires
