@@ -1,7 +1,7 @@
 -- The whole way of an event: what is asked of one server, and what is left of it in the rings and the words.
 use Prim.Native.Nat.{ℕ, _+_, _-_, _*_, _≤_, _<_}
 use mathlib.Core.Path.{_≡_, refl, sym, ap, _∙_, subst}
-use mathlib.Core.Logic.{_≢_, inl, inr}
+use mathlib.Core.Logic.{_≢_, inl, inr, ⊎-elim}
 use mathlib.Core.Bool.{Bool, true, false}
 use mathlib.Core.List.{List, []}
 use native.Mathlib.Omega.{arith}
@@ -12,7 +12,7 @@ use borrow.Author.Tests.{le-leb, leb-true, eq-eqb, lt-ltb, le-ltb, ltb-true}
 use Rattle.base.specs.Choice.{pick, both}
 use Rattle.base.specs.Refusals.{EVENT}
 use Rattle.base.specs.declared.Sizes.{Sizes}
-use Rattle.base.proofs.Choice.{case, both-true, upd₂-row}
+use Rattle.base.proofs.Choice.{case, both-true, upd₂-row, clash, le-or-lt}
 use Rattle.rules.specs.declared.State.{State}
 use Rattle.rules.specs.Message.{Send}
 use Rattle.rules.specs.Server.{Server}
@@ -24,13 +24,13 @@ use Rattle.ring.specs.declared.Rings.{Rings}
 use Rattle.ring.specs.Queue.{cell, head, count, wrap, chans, Ringed, Chan, Popped}
 use Rattle.ring.proofs.Laws.{wrap-low, ring-at, cell-low, slot-in, chan-count, chan-out, front-is, front-none}
 use Rattle.server.specs.declared.Event.{Event as Asked}
-use Rattle.server.specs.declared.Event.the-variants.{Oracle, Restart, Deliver, Submit}
+use Rattle.server.specs.declared.Event.the-variants.{Oracle, Restart, Deliver, Submit, Unknown}
 use Rattle.server.specs.declared.Answer.{Answer}
 use Rattle.server.specs.Whole.{answerOf, lentLen}
 use Rattle.site.specs.Parts.{part}
 use Rattle.turn.specs.Act.{Seat, Enacts}
 use Rattle.site.specs.Site.{Site, siteOf, recordAt, seated, serverAt, clusterOf, Good}
-use Rattle.turn.specs.Events.{stays, answered, asked, local, delivery, waits, firstSlot, eventOf, actor, asks, outcomeOf}
+use Rattle.turn.specs.Events.{stays, answered, asked, local, delivery, waits, firstSlot, eventOf, actor, asks, outcomeOf, alone, ruled}
 use Rattle.turn.specs.Turns.{Ships, Shipped, seatOf, Local, firstWords, Hears, Delivered, Turned, poppedRings, poppedQueue, poppedChans}
 use Rattle.site.specs.declared.Cluster.{Cluster}
 use Rattle.site.specs.declared.Told.{Told}
@@ -215,40 +215,44 @@ module _ (c : Cluster) (h k q o : List ℕ) (g : Good (c .sizes) (c .depth) (sit
   known : (i : ℕ) → i < c .sizes .n → ltb i (c .sizes .n) ≡ true
   known i l = lt-ltb i (c .sizes .n) l
 
-  module _ (s x : ℕ) where
-    pub oracle-unknown : c .sizes .n ≤ s → Turned c (O s x) h k q o (record { code = 2; cluster = c }) h k q o
-    unfolding eventOf local event at pick
-    oracle-unknown l = turned-none (O s x) (rw (unknown s l)) (rw (unknown s l))
-
-    out-of-range : c .sizes .n ≤ x → asked (c .sizes) w s (Oracle x) [] ≡ refused EVENT
-    unfolding asked answerOf step onOracle run
-    out-of-range l = rw (unknown x l)
-
-    pub oracle-range : s < c .sizes .n → c .sizes .n ≤ x → Turned c (O s x) h k q o (record { code = 2; cluster = c }) h k q o
-    unfolding eventOf local event at answered answer drops both pick answerOf
-    oracle-range m l = turned-none (O s x) (rw (known s m, out-of-range l)) (rw (known s m, asked-is s (Oracle x) [] (oracle x) m refl, out-of-range l))
-
-    pub oracle-turned : (t : Told) (h′ k′ q′ o′ : List ℕ) → s < c .sizes .n → Local c s (Oracle x) h k q o t h′ k′ q′ o′ → Turned c (O s x) h k q o t h′ k′ q′ o′
-    unfolding eventOf local event at pick actor asks answerOf clusterOf
-    oracle-turned t h′ k′ q′ o′ m f = turned-local (O s x) s (Oracle x) t h′ k′ q′ o′ refl (rw (known s m)) (rw (known s m, asked-is s (Oracle x) [] (oracle x) m refl)) f
+  -- what a server does for itself needs no words of a message
+  pub alone-lent : (ev : Asked) → alone ev ≡ true → lentLen (c .sizes) ev 0 ≡ true
+  unfolding alone lentLen
+  alone-lent (Oracle x) y = refl
+  alone-lent Restart y = refl
+  alone-lent (Deliver f) y = clash y refl
+  alone-lent (Submit v) y = refl
+  alone-lent Unknown y = clash y refl
 
   module _ (s : ℕ) where
-    pub restart-unknown : c .sizes .n ≤ s → Turned c (R s) h k q o (record { code = 2; cluster = c }) h k q o
-    unfolding eventOf local event at pick
-    restart-unknown l = turned-none (R s) (rw (unknown s l)) (rw (unknown s l))
+    pub alone-unknown : (ev : Asked) → alone ev ≡ true → c .sizes .n ≤ s → Turned c (ruled s ev) h k q o (record { code = 2; cluster = c }) h k q o
+    unfolding alone ruled eventOf local event at pick
+    alone-unknown (Oracle x) y l = turned-none (O s x) (rw (unknown s l)) (rw (unknown s l))
+    alone-unknown Restart y l = turned-none (R s) (rw (unknown s l)) (rw (unknown s l))
+    alone-unknown (Deliver f) y l = clash y refl
+    alone-unknown (Submit v) y l = turned-none (S s v) (rw (unknown s l)) (rw (unknown s l))
+    alone-unknown Unknown y l = clash y refl
 
-    pub restart-turned : (t : Told) (h′ k′ q′ o′ : List ℕ) → s < c .sizes .n → Local c s Restart h k q o t h′ k′ q′ o′ → Turned c (R s) h k q o t h′ k′ q′ o′
-    unfolding eventOf local event at pick actor asks answerOf clusterOf
-    restart-turned t h′ k′ q′ o′ m f = turned-local (R s) s Restart t h′ k′ q′ o′ refl (rw (known s m)) (rw (known s m, asked-is s Restart [] restart m refl)) f
+    pub alone-turned : (ev : Asked) (t : Told) (h′ k′ q′ o′ : List ℕ) → alone ev ≡ true → s < c .sizes .n → Local c s ev h k q o t h′ k′ q′ o′ → Turned c (ruled s ev) h k q o t h′ k′ q′ o′
+    unfolding alone ruled eventOf local event at pick actor asks answerOf clusterOf
+    alone-turned (Oracle x) t h′ k′ q′ o′ y m f = turned-local (O s x) s (Oracle x) t h′ k′ q′ o′ refl (rw (known s m)) (rw (known s m, asked-is s (Oracle x) [] (oracle x) m refl)) f
+    alone-turned Restart t h′ k′ q′ o′ y m f = turned-local (R s) s Restart t h′ k′ q′ o′ refl (rw (known s m)) (rw (known s m, asked-is s Restart [] restart m refl)) f
+    alone-turned (Deliver g) t h′ k′ q′ o′ y m f = clash y refl
+    alone-turned (Submit v) t h′ k′ q′ o′ y m f = turned-local (S s v) s (Submit v) t h′ k′ q′ o′ refl (rw (known s m)) (rw (known s m, asked-is s (Submit v) [] (submit v) m refl)) f
+    alone-turned Unknown t h′ k′ q′ o′ y m f = clash y refl
 
-  module _ (s v : ℕ) where
-    pub submit-unknown : c .sizes .n ≤ s → Turned c (S s v) h k q o (record { code = 2; cluster = c }) h k q o
-    unfolding eventOf local event at pick
-    submit-unknown l = turned-none (S s v) (rw (unknown s l)) (rw (unknown s l))
+    module _ (x : ℕ) (l : c .sizes .n ≤ x) where
+      out-of-range : asked (c .sizes) w s (Oracle x) [] ≡ refused EVENT
+      unfolding asked answerOf step onOracle run
+      out-of-range = rw (unknown x l)
 
-    pub submit-turned : (t : Told) (h′ k′ q′ o′ : List ℕ) → s < c .sizes .n → Local c s (Submit v) h k q o t h′ k′ q′ o′ → Turned c (S s v) h k q o t h′ k′ q′ o′
-    unfolding eventOf local event at pick actor asks answerOf clusterOf
-    submit-turned t h′ k′ q′ o′ m f = turned-local (S s v) s (Submit v) t h′ k′ q′ o′ refl (rw (known s m)) (rw (known s m, asked-is s (Submit v) [] (submit v) m refl)) f
+      oracle-known : s < c .sizes .n → Turned c (O s x) h k q o (record { code = 2; cluster = c }) h k q o
+      unfolding eventOf local event at answered answer drops both pick answerOf
+      oracle-known m = turned-none (O s x) (rw (known s m, out-of-range)) (rw (known s m, asked-is s (Oracle x) [] (oracle x) m refl, out-of-range))
+
+      pub oracle-range : Turned c (O s x) h k q o (record { code = 2; cluster = c }) h k q o
+      unfolding alone ruled
+      oracle-range = ⊎-elim (alone-unknown (Oracle x) refl) oracle-known (le-or-lt (c .sizes .n) s)
 
   -- ---- a delivery
 

@@ -15,7 +15,7 @@ use Rattle.ring.specs.declared.Rings.{Rings}
 use Rattle.ring.specs.Queue.{cell, count, slotNo, slotWords, shorter, filled, vacated, bared}
 use Rattle.post.specs.Posts.{rungs, strewn}
 use Rattle.server.specs.declared.Event.{Event as Input}
-use Rattle.server.specs.declared.Event.the-variants.{Oracle, Restart, Deliver, Submit}
+use Rattle.server.specs.declared.Event.the-variants.{Oracle, Restart, Deliver, Submit, Unknown}
 use Rattle.server.specs.Whole.{answerOf}
 use Rattle.turn.specs.Act.{roomFor}
 use Rattle.site.specs.Parts.{share, part}
@@ -77,6 +77,21 @@ asked z w i ev m = answerOf z (recordAt (w .servers) i) ev (part z i (w .hists))
 
 unfoldable pub local : Sizes → ℕ → Site → ℕ → Input → After
 local z depth w i ev = pick (ltb i (z .n)) (answered z depth w i (w .rings) (w .queue) (asked z w i ev [])) (stays EVENT w)
+
+-- what a server does for itself, and how the rules name it at server s
+unfoldable pub alone : Input → Bool
+alone (Oracle x) = true
+alone Restart = true
+alone (Deliver f) = false
+alone (Submit v) = true
+alone Unknown = false
+
+unfoldable pub ruled : ℕ → Input → Event
+ruled s (Oracle x) = O s x
+ruled s Restart = R s
+ruled s (Deliver f) = D f s
+ruled s (Submit v) = S s v
+ruled s Unknown = R s
 
 -- does a message wait from f to t?
 unfoldable pub waits : Sizes → Rings → ℕ → ℕ → Bool

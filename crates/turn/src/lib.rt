@@ -11,12 +11,12 @@ use site::Told;
 ghost use mathlib.Core.Path.{_≡_};
 ghost use mathlib.Core.Bool.{true};
 ghost use Prim.Native.Nat.{_+_, _<_};
-ghost use Rattle.rules.specs.Cluster.{drops, O, R, D, S};
+ghost use Rattle.rules.specs.Cluster.{drops, O, D};
 ghost use Rattle.ring.specs.Queue.{Ringed, Chan};
 ghost use Rattle.server.specs.Whole.{lentLen};
 ghost use Rattle.turn.specs.Act.{Enacts};
 ghost use Rattle.site.specs.Site.{siteOf, Good};
-ghost use Rattle.turn.specs.Events.{meant, waits};
+ghost use Rattle.turn.specs.Events.{meant, alone, ruled, waits};
 ghost use Rattle.turn.specs.Turns.{Ships, Shipped, seatOf, Local, firstWords, Hears, Delivered, Turned};
 
 // What may happen, as a script says it: O s x, R s, D from to, S s v; and anything else.
@@ -213,6 +213,28 @@ fn delivery<'a>(
     deliver(c, f as u8, t as u8, hists, cands, queue, out)
 }
 
+// What server s does for itself, if there is such a server.
+fn alone<'a>(
+    c: Cluster,
+    s: u64,
+    ev: Event,
+    hists: &mut [u64],
+    cands: &'a mut [u64],
+    queue: &'a mut [u64],
+    out: &mut [u64],
+) -> Told
+    requires { ⌜ (Good (c .sizes) (c .depth) (siteOf c (now hists) (now cands) (now queue) (now out))) × (alone ev ≡ true) ⌝ }
+    ensures { λ r. ⌜ Turned c (ruled s ev) (now (hists .entry)) (now (cands .entry)) (now (queue .entry)) (now (out .entry)) r (now (hists .exit)) (now (cands .exit)) (now (queue .exit)) (now (out .exit)) ⌝ }
+{
+    if (c.sizes.n as u64) <= s {
+        return Told {
+            code: 2,
+            cluster: c,
+        };
+    }
+    local(c, s as u8, ev, hists, cands, queue, out)
+}
+
 // An oracle event, if there are such servers.
 fn oracle<'a>(
     c: Cluster,
@@ -226,63 +248,13 @@ fn oracle<'a>(
     requires { ⌜ Good (c .sizes) (c .depth) (siteOf c (now hists) (now cands) (now queue) (now out)) ⌝ }
     ensures { λ r. ⌜ Turned c (O s x) (now (hists .entry)) (now (cands .entry)) (now (queue .entry)) (now (out .entry)) r (now (hists .exit)) (now (cands .exit)) (now (queue .exit)) (now (out .exit)) ⌝ }
 {
-    let n = c.sizes.n as u64;
-    if n <= s {
+    if (c.sizes.n as u64) <= x {
         return Told {
             code: 2,
             cluster: c,
         };
     }
-    if n <= x {
-        return Told {
-            code: 2,
-            cluster: c,
-        };
-    }
-    local(c, s as u8, Event::Oracle(x as u8), hists, cands, queue, out)
-}
-
-// A restart, if there is such a server.
-fn restart<'a>(
-    c: Cluster,
-    s: u64,
-    hists: &mut [u64],
-    cands: &'a mut [u64],
-    queue: &'a mut [u64],
-    out: &mut [u64],
-) -> Told
-    requires { ⌜ Good (c .sizes) (c .depth) (siteOf c (now hists) (now cands) (now queue) (now out)) ⌝ }
-    ensures { λ r. ⌜ Turned c (R s) (now (hists .entry)) (now (cands .entry)) (now (queue .entry)) (now (out .entry)) r (now (hists .exit)) (now (cands .exit)) (now (queue .exit)) (now (out .exit)) ⌝ }
-{
-    if (c.sizes.n as u64) <= s {
-        return Told {
-            code: 2,
-            cluster: c,
-        };
-    }
-    local(c, s as u8, Event::Restart, hists, cands, queue, out)
-}
-
-// A submission, if there is such a server.
-fn submit<'a>(
-    c: Cluster,
-    s: u64,
-    v: u64,
-    hists: &mut [u64],
-    cands: &'a mut [u64],
-    queue: &'a mut [u64],
-    out: &mut [u64],
-) -> Told
-    requires { ⌜ Good (c .sizes) (c .depth) (siteOf c (now hists) (now cands) (now queue) (now out)) ⌝ }
-    ensures { λ r. ⌜ Turned c (S s v) (now (hists .entry)) (now (cands .entry)) (now (queue .entry)) (now (out .entry)) r (now (hists .exit)) (now (cands .exit)) (now (queue .exit)) (now (out .exit)) ⌝ }
-{
-    if (c.sizes.n as u64) <= s {
-        return Told {
-            code: 2,
-            cluster: c,
-        };
-    }
-    local(c, s as u8, Event::Submit(v), hists, cands, queue, out)
+    alone(c, s, Event::Oracle(x as u8), hists, cands, queue, out)
 }
 
 // Any event.
@@ -299,9 +271,9 @@ pub fn turn<'a>(
 {
     match e {
         Happening::Oracle(s, x) => oracle(c, s, x, hists, cands, queue, out),
-        Happening::Restart(s) => restart(c, s, hists, cands, queue, out),
+        Happening::Restart(s) => alone(c, s, Event::Restart, hists, cands, queue, out),
         Happening::Deliver(f, t) => delivery(c, f, t, hists, cands, queue, out),
-        Happening::Submit(s, v) => submit(c, s, v, hists, cands, queue, out),
+        Happening::Submit(s, v) => alone(c, s, Event::Submit(v), hists, cands, queue, out),
         Happening::Unknown => Told {
             code: 2,
             cluster: c,

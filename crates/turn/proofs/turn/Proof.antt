@@ -1,7 +1,9 @@
 use Prim.Native.Nat.{_-_}
+use mathlib.Core.Path.{refl}
 use native.Mathlib.Omega.{arith}
-use Rattle.turn.proofs.Turning.{restart-unknown}
-use Rattle.turn.specs.Events.{meant}
+use Rattle.server.specs.declared.Event.the-variants.{Restart}
+use Rattle.turn.proofs.Turning.{alone-unknown}
+use Rattle.turn.specs.Events.{meant, alone, ruled}
 use borrow.Author.Needs.{needs}
 use Rattle.turn.proofs.turn.Statement.{statement}
 use Rattle.turn.proofs.turn.Tie as tie
@@ -9,8 +11,7 @@ use Rattle.turn.proofs.turn.Reads as reads
 use Rattle.turn.proofs.turn.Lts as lts
 use Rattle.turn.proofs.delivery.Reads as delivery-reads
 use Rattle.turn.proofs.oracle.Reads as oracle-reads
-use Rattle.turn.proofs.restart.Reads as restart-reads
-use Rattle.turn.proofs.submit.Reads as submit-reads
+use Rattle.turn.proofs.alone.Reads as alone-reads
 
 -- src/lib.rt:227:27
 enum-known-e : tie.Need-enum-known-e
@@ -25,8 +26,9 @@ enum-known-e-2 : tie.Need-enum-known-e-2
 enum-known-e-2 c = search needs
 
 -- src/lib.rt:228:34
-restart-requires : tie.Need-restart-requires
-restart-requires c κs = search needs
+alone-requires : tie.Need-alone-requires
+unfolding alone
+alone-requires c κs = search needs
 
 -- src/lib.rt:229:28
 enum-known-e-3 : tie.Need-enum-known-e-3
@@ -41,8 +43,9 @@ enum-known-e-4 : tie.Need-enum-known-e-4
 enum-known-e-4 c = search needs
 
 -- src/lib.rt:230:36
-submit-requires : tie.Need-submit-requires
-submit-requires c κs = search needs
+alone-requires-2 : tie.Need-alone-requires-2
+unfolding alone
+alone-requires-2 c κs = search needs
 
 -- src/lib.rt:231:31
 enum-told : tie.Need-enum-told
@@ -66,7 +69,7 @@ same-length-4 c = search needs
 
 -- src/lib.rt:215:1
 returns : tie.Need-returns
-unfolding meant
+unfolding meant ruled
 returns c = rw (c .before .before .before .before .before .before .before .before .before .before .before .before .before .before .e .given .1) (c .before .before .before .before .before .before .before .before .oracle .ensures)
 
 -- src/lib.rt:215:1
@@ -87,8 +90,8 @@ same-length-8 c = search needs
 
 -- src/lib.rt:215:1
 returns-2 : tie.Need-returns-2
-unfolding meant
-returns-2 c = rw (c .before .before .before .before .before .before .before .before .before .before .before .before .before .before .e2 .given .1) (c .before .before .before .before .before .before .before .before .restart .ensures)
+unfolding meant ruled
+returns-2 c = rw (c .before .before .before .before .before .before .before .before .before .before .before .before .before .before .e2 .given .1) (c .before .before .before .before .before .before .before .before .alone .ensures)
 
 -- src/lib.rt:215:1
 same-length-9 : tie.Need-same-length-9
@@ -108,7 +111,7 @@ same-length-12 c = search needs
 
 -- src/lib.rt:215:1
 returns-3 : tie.Need-returns-3
-unfolding meant
+unfolding meant ruled
 returns-3 c = rw (c .before .before .before .before .before .before .before .before .before .before .before .before .before .before .e3 .given .1) (c .before .before .before .before .before .before .before .before .delivery .ensures)
 
 -- src/lib.rt:215:1
@@ -129,13 +132,13 @@ same-length-16 c = search needs
 
 -- src/lib.rt:215:1
 returns-4 : tie.Need-returns-4
-unfolding meant
-returns-4 c = rw (c .before .before .before .before .before .before .before .before .before .before .before .before .before .before .e4 .given .1) (c .before .before .before .before .before .before .before .before .submit .ensures)
+unfolding meant ruled
+returns-4 c = rw (c .before .before .before .before .before .before .before .before .before .before .before .before .before .before .e4 .given .1) (c .before .before .before .before .before .before .before .before .alone2 .ensures)
 
 -- src/lib.rt:215:1
 returns-5 : tie.Need-returns-5
-unfolding meant
-returns-5 c = let a = c .before .before .before .before .before .before .args in let g = c .before .before .before .before .before .before .pre in rw (c .enum-told .given .1) (restart-unknown (a .c) (a .hists .now) (a .cands .now) (a .queue .now) (a .out .now) g (a .c .sizes .n) (omega arith))
+unfolding meant ruled alone
+returns-5 c = let a = c .before .before .before .before .before .before .args in let g = c .before .before .before .before .before .before .pre in rw (c .enum-told .given .1) (alone-unknown (a .c) (a .hists .now) (a .cands .now) (a .queue .now) (a .out .now) g (a .c .sizes .n) Restart refl (omega arith))
 
 pub turn-spec : {M : Type 1} → statement M
 turn-spec =
@@ -144,11 +147,11 @@ turn-spec =
     enum-known-e
     oracle-requires
     enum-known-e-2
-    restart-requires
+    alone-requires
     enum-known-e-3
     delivery-requires
     enum-known-e-4
-    submit-requires
+    alone-requires-2
     enum-told
     same-length
     same-length-2
