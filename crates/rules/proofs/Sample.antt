@@ -1,16 +1,17 @@
 -- The paper's script and its whole output.
+use Prim.Native.Nat.{ℕ}
 use mathlib.Core.Path.{_≡_, refl}
 use mathlib.Core.List.{List, [], _∷_}
 use Rattle.base.specs.Choice.{pick, both, either, upd, upd₂, allBelow}
 use Rattle.base.specs.Quorum.{just, weight, quorum}
 use Rattle.base.specs.Transaction.{idAt, nextCounter, follows, rising, goodHist, sameTxn, sameHist}
-use Rattle.base.specs.Record.{E, B, «V», X, Entry}
+use Rattle.base.specs.Record.{Rec, E, B, «V», X, Entry}
 use Rattle.base.specs.declared.Sizes.{Sizes}
 use Rattle.rules.specs.Message.{positive, formed}
 use Rattle.rules.specs.Table.{table, cell}
 use Rattle.rules.specs.Tree.{run, gate, toAll}
 use Rattle.rules.specs.Step.{keeps, onOracle, onRestart, l1Join, l2Join, l34Join, onCepoch, beats, l2Count, onAcke, advance, advanced, l3Sync, l4Advance, onAckld, onAck, onNewepoch, onNewleader, onPropose, onCommit, receive, onSubmit, step}
-use Rattle.rules.specs.Cluster.{start, Event, O, D, S, emptied, post, roomy, drops, answer, at, hand, event, after, enters, begun, newly, records, trace}
+use Rattle.rules.specs.Cluster.{start, Event, O, R, D, S, emptied, post, roomy, drops, answer, at, hand, event, after, enters, begun, newly, records, trace}
 
 three : Sizes
 three = record { n = 3; room = record { 0 = 16 } }
