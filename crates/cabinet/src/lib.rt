@@ -1,4 +1,6 @@
-// What a C host calls: one step of a server, its record, its histories and the messages in lent bytes; and the trace checker.
+// What a host calls: one step of a server, its record, its histories and the messages in lent bytes; and the trace checker.
+#![tactic(auto)]
+
 mod run;
 
 ghost use Rattle.std.specs.Prelude.{◌≡◌, [], ◌∷◌, ◌*◌, ◌≤◌, length};
@@ -10,6 +12,7 @@ ghost use Rattle.cabinet.specs.Zab.{sized, slotted, lent_words, event_of, Lent, 
 
 use base::{Place, Sizes};
 use rules::State;
+pub use run::zab_run;
 use server::{Answer, Event};
 use trace::Verdict;
 
@@ -128,8 +131,7 @@ fn step_bytes(
 }
 
 // The step of a server on lent bytes: 0, or the refusal's number, and then every byte is as it was.
-#[unsafe(no_mangle)]
-pub extern "C" fn zab_step(
+pub fn zab_step(
     n: u8,
     room: u32,
     record: &mut [u8],
@@ -206,8 +208,7 @@ fn tell(told: &mut [u8], place: u32)
 
 // The trace checker on lent bytes: 0 if the trace keeps the rules; the rule that is broken first, 1 to 6, its record's place
 // then in `told`; or 13.
-#[unsafe(no_mangle)]
-pub extern "C" fn zab_check(n: u32, recs: &[u8], told: &mut [u8]) -> u8
+pub fn zab_check(n: u32, recs: &[u8], told: &mut [u8]) -> u8
     ensures { Judges (check_of n recs.now told.old) result told.new }
 {
     if told.len() != 8 {

@@ -172,8 +172,7 @@ fn write_cluster(held: &mut [u64], c: Cluster, met: usize, taken: usize)
 }
 
 // The run of a cluster on lent words: 0, or 1 and then every word is as it was.
-#[unsafe(no_mangle)]
-pub extern "C" fn zab_run<'a>(
+pub fn zab_run<'a>(
     held: &mut [u64],
     hists: &mut [u64],
     cands: &'a mut [u64],

@@ -1,4 +1,6 @@
 // The cluster: servers and the channels between them. Any event, and a fresh cluster.
+#![tactic(auto)]
+
 mod start;
 
 ghost use Rattle.turn.specs.Events.{meant};

@@ -1,4 +1,6 @@
 // A leader's plans of ACK-LD, of ACK, and of a submission.
+#![tactic(auto)]
+
 ghost use Rattle.std.specs.Prelude.{◌≡◌, ◌≢◌, List, ℕ, ◌-◌, ◌*◌, ◌≤◌, ◌<◌, length};
 ghost use Rattle.base.specs.Quorum.{size, quorum};
 ghost use Rattle.base.specs.Transaction.{LAST, ident, next_counter};

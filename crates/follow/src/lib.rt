@@ -1,4 +1,6 @@
 // Plans of an oracle event, of a restart, and of a follower's messages.
+#![tactic(auto)]
+
 ghost use Rattle.std.specs.Prelude.{◌≡◌, true, List, ℕ, ◌+◌, ◌*◌, ◌≤◌, ◌<◌, eqb, length};
 ghost use Rattle.base.specs.Transaction.{ident};
 ghost use Rattle.rules.specs.Message.{newepoch, newleader, propose, commitld, commit};

@@ -1,4 +1,6 @@
 // The hands: they carry out a plan. Only they write the lent words.
+#![tactic(auto)]
+
 ghost use Rattle.std.specs.Prelude.{◌≡◌, ◌∷◌, ◌++◌, ◌+◌, ◌-◌, ◌*◌, ◌≤◌, ◌<◌, length, take};
 ghost use Rattle.base.specs.Choice.{pick};
 ghost use Rattle.rules.specs.Words.{txns, zeros, hist_words, msg_words, has, slot_size, put};

@@ -1,4 +1,6 @@
 // A leader's plans of CEPOCH and ACK-E: the election.
+#![tactic(auto)]
+
 ghost use Rattle.std.specs.Prelude.{◌≡◌, true, false, List, ℕ, ◌+◌, ◌*◌, ◌≤◌, ◌<◌, eqb, length};
 ghost use Rattle.base.specs.Choice.{pick, both, upd};
 ghost use Rattle.base.specs.Transaction.{last_id};

@@ -1,5 +1,7 @@
 // Reads the words of a slot to a message; a malformed one reads as Bad.
 // First the words past the fields, then the fields of each kind.
+#![tactic(auto)]
+
 ghost use Rattle.std.specs.Prelude.{◌≡◌, List, ℕ, ◌+◌, ◌*◌, ◌≤◌, length, drop};
 ghost use Rattle.base.specs.declared.Sizes.{Sizes};
 ghost use Rattle.rules.specs.Message.{cepoch, newepoch, acke, newleader, ackld, commitld, propose, ack, commit};

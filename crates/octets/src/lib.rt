@@ -1,4 +1,6 @@
 // Words in lent bytes, eight bytes to a word, the lowest first; and the record of a server in words.
+#![tactic(auto)]
+
 ghost use Rattle.std.specs.Prelude.{◌≡◌, true, ◌++◌, ◌+◌, ◌-◌, ◌*◌, ◌≤◌, ◌<◌, length, take, drop};
 ghost use Rattle.base.specs.Transaction.{LAST};
 ghost use Rattle.rules.specs.Words.{put};

@@ -1,5 +1,7 @@
 // A step is a pure plan, and hands that carry it out. Here: what a plan is, and the makers of plans.
 // What a plan means as an answer of the rules is in specs/Plans.antt.
+#![tactic(auto)]
+
 ghost use Rattle.std.specs.Prelude.{◌≡◌, ◌≢◌, true, false, ◌<◌, ◌≤◌, max};
 ghost use Rattle.rules.specs.Table.{cell};
 ghost use Rattle.rules.specs.Tree.{Tree, run, gate};
@@ -9,7 +11,7 @@ use base::{Epoch, Ident, Place, Sizes, Txn};
 use rules::State;
 
 // A message to each other server of a set; kinds 3 and 4 carry the history after the step, 7 the plan's transaction.
-#[derive(Drop)]
+#[derive(Clone, Copy)]
 pub struct Cast {
     pub to: [bool; 7],
     pub kind: u8,
@@ -20,7 +22,7 @@ pub struct Cast {
 // What a step would do: the refusal or 0; whether the channels are emptied; the record after it; where the history and
 // the candidate after it lie (0 where it lay, 1 in the message, 2 in the candidate for the history and in the history for
 // the candidate, 3 with `txn` appended); what is sent, first `one` and then `two`.
-#[derive(Drop)]
+#[derive(Clone, Copy)]
 pub struct Plan {
     pub code: u8,
     pub empties: bool,
@@ -33,7 +35,7 @@ pub struct Plan {
 }
 
 // A message as read from its words; its history stays there.
-#[derive(Drop)]
+#[derive(Clone, Copy)]
 pub enum Message {
     Cepoch(Epoch),
     Newepoch(Epoch),

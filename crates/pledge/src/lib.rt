@@ -1,4 +1,6 @@
 // A cluster's code and the theorems together: what its runs promise of the words that they leave.
+#![tactic(auto)]
+
 ghost use Rattle.std.specs.Prelude.{◌<◌, ◌≡◌};
 ghost use Rattle.site.specs.Site.{site_of};
 ghost use Rattle.pledge.specs.Ledger.{Pledged};
@@ -11,7 +13,7 @@ use turn::Happening;
 
 // What a calm run reports: the refusal of its submission or 0; how many were named, and how many deliveries were taken before
 // the submission and after it.
-#[derive(Drop)]
+#[derive(Clone, Copy)]
 pub struct Calmed {
     pub code: u8,
     pub named: usize,

@@ -1,4 +1,6 @@
 // What a server sends, from the outbox into the rings.
+#![tactic(auto)]
+
 ghost use Rattle.std.specs.Prelude.{◌≡◌, true, false, ◌+◌, ◌*◌, ◌≤◌, ◌<◌, length};
 ghost use Rattle.rules.specs.Words.{slot_size, has};
 ghost use Rattle.ring.specs.Queue.{cell, count, good_rings, Ringed, Chan, Pushed};

@@ -1,4 +1,6 @@
 // The channels between servers: for each a ring of slots in one lent slice, so that no other slot moves.
+#![tactic(auto)]
+
 ghost use Rattle.std.specs.Prelude.{◌≡◌, true, ◌+◌, ◌*◌, ◌≤◌, ◌<◌, length, take};
 ghost use Rattle.base.specs.declared.Sizes.{Sizes};
 ghost use Rattle.rules.specs.Words.{msg_size, zeros, put};
@@ -7,7 +9,7 @@ ghost use Rattle.ring.specs.Queue.{RINGS, cell, head, count, wrap, slot_no, good
 use base::Sizes;
 
 // Of each ring: the slot of the first message, and how many wait.
-#[derive(Drop)]
+#[derive(Clone, Copy)]
 pub struct Rings {
     pub heads: [u8; 49],
     pub counts: [u8; 49],

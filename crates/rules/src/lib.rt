@@ -1,8 +1,10 @@
 // The record of a server as code holds it: types alone. What it stands for is in specs/Words.antt.
+#![tactic(auto)]
+
 use base::{Epoch, Place};
 
 // The histories lie in lent words; `len` and `cand_len` say how many transactions they hold.
-#[derive(Drop)]
+#[derive(Clone, Copy)]
 pub struct State {
     pub me: u8,
     pub stage: u8,

@@ -1,4 +1,6 @@
 // Many events of a cluster: a run of those that lent words say, and settling.
+#![tactic(auto)]
+
 mod many;
 
 ghost use Rattle.site.specs.Site.{site_of, cluster_of, good_site};
@@ -7,7 +9,7 @@ ghost use Rattle.runs.specs.Runs.{events_of, good_run, easings, Runs};
 use site::Cluster;
 
 // How many events a run met, and how many of them were taken; 1 if what was lent is not well formed.
-#[derive(Drop)]
+#[derive(Clone, Copy)]
 pub struct Ran {
     pub code: u8,
     pub met: usize,

@@ -1,4 +1,6 @@
 // What a line of the script does to the cluster, and what it leaves in the trace.
+#![tactic(auto)]
+
 ghost use Rattle.std.specs.Prelude.{◌≡◌, true, ◌+◌, ◌-◌, ◌*◌, ◌≤◌, ◌<◌, length, drop};
 ghost use Rattle.base.specs.Choice.{pick};
 ghost use Rattle.base.specs.declared.Sizes.{Sizes};
@@ -15,7 +17,7 @@ use site::Cluster;
 use turn::Happening;
 
 // Where the line's records end, and the cluster after it.
-#[derive(Drop)]
+#[derive(Clone, Copy)]
 pub struct Said {
     pub end: usize,
     pub cluster: Cluster,

@@ -1,4 +1,6 @@
 // A script's line read, and a trace's record written, on lent bytes.
+#![tactic(auto)]
+
 ghost use Rattle.std.specs.Prelude.{◌≡◌, ◌+◌, ◌≤◌, ◌<◌, length, drop};
 ghost use Rattle.script.specs.Line.{upto, shift, after, misled, number, one_number, two_numbers, line_of};
 ghost use Rattle.script.specs.Text.{digits, spaced, ending, two, four, header, bytes_of, rec_of, Wrote};
@@ -7,7 +9,7 @@ ghost use Rattle.script.specs.declared.Value.TheVariants.{Is};
 const MAX: u64 = 18446744073709551615;
 
 // A command of the script; Bad is any other line.
-#[derive(Drop)]
+#[derive(Clone, Copy)]
 pub enum Command {
     Begin(u8),
     Oracle(u64, u64),
@@ -18,14 +20,14 @@ pub enum Command {
 }
 
 // A field read as a number.
-#[derive(Drop)]
+#[derive(Clone, Copy)]
 pub enum Value {
     Is(u64),
     Refused,
 }
 
 // A record of the trace: E server epoch; B and V server epoch counter value; X line refusal.
-#[derive(Drop)]
+#[derive(Clone, Copy)]
 pub enum Note {
     Enters(u64, u64),
     Takes(u64, u64, u64, u64),

@@ -1,4 +1,6 @@
 // One server's step on lent words: the plan, carried out.
+#![tactic(auto)]
+
 ghost use Rattle.std.specs.Prelude.{◌≡◌, true, false, ◌+◌, ◌*◌, ◌≤◌, ◌<◌, length, drop};
 ghost use Rattle.rules.specs.Tree.{run};
 ghost use Rattle.rules.specs.Step.{receive};
@@ -13,7 +15,7 @@ use plan::{Message, Plan};
 use rules::State;
 
 // What may happen at a server; the words of a delivered message are lent beside it.
-#[derive(Drop)]
+#[derive(Clone, Copy)]
 pub enum Event {
     Oracle(u8),
     Restart,
@@ -24,7 +26,7 @@ pub enum Event {
 
 // The refusal or 0, how many messages stand in the outbox, whether the channels to and from the server are to be emptied,
 // and the record after the step.
-#[derive(Drop)]
+#[derive(Clone, Copy)]
 pub struct Answer {
     pub code: u8,
     pub sent: usize,
@@ -33,7 +35,7 @@ pub struct Answer {
 }
 
 // What an event would be answered: the refusal or 0, whether the channels would be emptied, and how many messages would go to whom.
-#[derive(Drop)]
+#[derive(Clone, Copy)]
 pub struct Forecast {
     pub code: u8,
     pub empties: bool,

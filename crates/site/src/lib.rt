@@ -1,4 +1,6 @@
 // What the code of a cluster holds, and whether its sizes, records, rings and lent words are well formed.
+#![tactic(auto)]
+
 ghost use Rattle.std.specs.Prelude.{◌≡◌, true, List, ℕ, ◌*◌, ◌≤◌, ◌<◌, leb, length};
 ghost use Rattle.base.specs.Choice.{both, all_below};
 ghost use Rattle.rules.specs.Server.{good_sizes};
@@ -11,7 +13,7 @@ use rules::State;
 
 // Seven places for servers, of which the first n are used, and the rings of the channels. Histories, candidates, queue and
 // outbox are lent beside it.
-#[derive(Drop)]
+#[derive(Clone, Copy)]
 pub struct Cluster {
     pub sizes: Sizes,
     pub depth: u8,
@@ -20,7 +22,7 @@ pub struct Cluster {
 }
 
 // The refusal or 0, and the cluster afterwards.
-#[derive(Drop)]
+#[derive(Clone, Copy)]
 pub struct Told {
     pub code: u8,
     pub cluster: Cluster,

@@ -1,4 +1,6 @@
 // Whether sizes, record and lent words are well formed, clause by clause.
+#![tactic(auto)]
+
 ghost use Rattle.std.specs.Prelude.{◌≡◌, Bool, not, List, ℕ, ◌+◌, ◌*◌, ◌≤◌, ◌<◌, eqb, ltb, length};
 ghost use Rattle.base.specs.Choice.{both, either};
 ghost use Rattle.base.specs.Transaction.{Hist};

@@ -3,6 +3,8 @@
 // A V inside the longest delivered sequence is compared with one record. A new transaction looks for its B from the last one's
 // on, so all of them together pass the trace once. An E and a B look their epoch up in a table, in at most 64 steps. So the
 // cost is at most that of 64 steps for each record.
+#![tactic(auto)]
+
 mod epochs;
 mod look;
 mod step;
@@ -15,7 +17,7 @@ ghost use Rattle.trace.specs.Words.{WORDS, Within, count_of, rec_at, recs_from, 
 ghost use Rattle.trace.specs.Meaning.{Judged, Checked};
 
 // Yes; or the record, counted from 0, at which the trace so far first breaks a rule, and the lowest such rule; or TRACE.
-#[derive(Drop)]
+#[derive(Clone, Copy)]
 pub enum Verdict {
     Keeps,
     Breaks(u32, u8),

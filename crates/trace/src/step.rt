@@ -9,7 +9,7 @@ use crate::{look, words};
 // sequence grew: all servers' sequences begin it. `counts` is how many transactions each server delivered, `len` the length of
 // the longest, `top` the greatest epoch of a B. `seen` says from where to look for the B of the next new transaction: it lies
 // behind the last one's, unless a rule is broken.
-#[derive(Drop)]
+#[derive(Clone, Copy)]
 pub struct State {
     pub counts: [usize; 7],
     pub len: usize,
@@ -18,7 +18,7 @@ pub struct State {
 }
 
 // The lowest rule that the record breaks, 0 if it breaks none; and then the state after it.
-#[derive(Drop)]
+#[derive(Clone, Copy)]
 pub struct Told {
     pub rule: u8,
     pub state: State,

@@ -1,4 +1,6 @@
 // An event of a cluster that is known to be well formed; it leaves a well-formed one.
+#![tactic(auto)]
+
 mod act;
 
 ghost use Rattle.std.specs.Prelude.{◌≡◌, true, ◌+◌, ◌<◌};
@@ -17,7 +19,7 @@ use server::{Answer, Event};
 use site::{Cluster, Told};
 
 // What may happen, as a script says it: O s x, R s, D from to, S s v; and anything else.
-#[derive(Drop)]
+#[derive(Clone, Copy)]
 pub enum Happening {
     Oracle(u64, u64),
     Restart(u64),
