@@ -98,7 +98,7 @@ post-at i (x ∷ xs) c a b =
     post-at i xs (upd₂ c i x.to (c i x.to ++ m)) a b
     ∙ ⊎_elim
     (λ (p : a ≡ i). ⊎_elim
-    (λ (q : b ≡ x.to). rw (p, q, upd₂-same c i x.to (c i x.to ++ m), eq-eqb i i refl, eq-eqb x.to x.to refl) (append_assoc (c i x.to) m (to x.to xs)))
+    (λ (q : b ≡ x.to). rw (p, q, upd₂-same c i x.to (c i x.to ++ m), eq-eqb i i refl, eq-eqb x.to x.to refl) (rw (← q) (append_assoc (c i b) m (to b xs))))
     (λ (q : b ≢ x.to). rw (upd₂-other c i x.to (c i x.to ++ m) a b q, ne_eqb b x.to q))
     (eq-or b x.to))
     (λ (p : a ≢ i). rw (upd₂-row c i x.to (c i x.to ++ m) a b p, ne_eqb a i p))

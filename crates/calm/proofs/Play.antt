@@ -94,10 +94,10 @@ module _ (w : Scene) (Y : Sys) (Safe : Cluster → Type 0) (sure : Sure w.z w.de
 
   pub ran : {k : Y.K} (c : Cluster) (st : Y.Stage k) (l : ℕ → Y.Pt k) → Calm w Y c st l → Safe c → (es : List Event) → Lively z depth q c es → Ran c es (total Y z.n l)
   unfolding play all_done
-  ran c st l calm safe es end = record { k = _; st = st; l = l; calm = calm; spent = omega arith; took = refl }
-  ran c st l calm safe es (then {f = f} {t = t} {es = es'} hf ht busy more) =
+  ran {k = k} c st l calm safe es end = record { k = k; st = st; l = l; calm = calm; spent = omega arith; took = refl }
+  ran {k = k} c st l calm safe es (then {f = f} {t = t} {es = es'} hf ht busy more) =
       let s = step c st l calm safe f t hf ht busy in
-      let r = ran (after (event z depth c (D f t))) s.st s.l s.calm (sure.kept c (D f t) safe) es' more in
+      let r = ran {k = s.k} (after (event z depth c (D f t))) s.st s.l s.calm (sure.kept c (D f t) safe) es' more in
       record {
         k = r.k;
         st = r.st;
@@ -138,9 +138,9 @@ module _ (w : Scene) (Y : Sys) (Safe : Cluster → Type 0) (sure : Sure w.z w.de
   -- and there is such a sequence: as long as what is to come
   pub exists : {k : Y.K} (m : ℕ) (c : Cluster) (st : Y.Stage k) (l : ℕ → Y.Pt k) → Calm w Y c st l → Safe c → total Y z.n l ≡ m
       → (es : List Event) × Lively z depth q c es × (length es ≡ m)
-  exists zero c st l calm safe e = ([], end, refl)
-  exists (suc m) c st l calm safe e =
+  exists {k = k} zero c st l calm safe e = ([], end, refl)
+  exists {k = k} (suc m) c st l calm safe e =
       let p = waits c st l calm (omega arith) in
       let s = step c st l calm safe p.from p.to p.from_in p.to_in p.busy in
-      let r = exists m (after (event z depth c (D p.from p.to))) s.st s.l s.calm (sure.kept c (D p.from p.to) safe) (omega (arith, s.less)) in
+      let r = exists {k = s.k} m (after (event z depth c (D p.from p.to))) s.st s.l s.calm (sure.kept c (D p.from p.to) safe) (omega (arith, s.less)) in
       (D p.from p.to ∷ r.0, then p.from_in p.to_in p.busy r.1, ap suc r.2)

@@ -16,10 +16,10 @@ use Rattle.base.specs.declared.Sizes.{Sizes}
 use Rattle.base.proofs.Choice.{passes, clash, eq-or, upd-at, upd_same, upd_other, both-no, either_left, either-right, both_right}
 use Rattle.base.proofs.Quorum.{quorum-alone}
 use Rattle.rules.specs.Message.{Msg, propose, ack, commit, formed}
-use Rattle.rules.specs.Server.{Server, F4, L4, idle}
+use Rattle.rules.specs.Server.{Server, F4, L4}
 use Rattle.rules.specs.Table.{cell, table}
 use Rattle.rules.specs.Tree.{taken, to_all}
-use Rattle.rules.specs.Step.{step, submit, receive, on_propose, on_commit, on_ack, on_submit, submission, l4_advance, advanced, advance, holders}
+use Rattle.rules.specs.Step.{step, submit, receive, on_propose, on_commit, on_ack, on_submit, l4_advance, advanced, advance, holders}
 use Rattle.rules.specs.Cluster.{Cluster, Event, D, S, post, event, done, after, is_done}
 use Rattle.calm.specs.Calm.{Crew, Lively, full, Ready, Established, Round, submitted-entry}
 use Rattle.calm.proofs.Laws.{over, sole, pick-nil, over-upd, over-same, over-over, Runs, pass, leaf, gated, each, to_set, post-at}

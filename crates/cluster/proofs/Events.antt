@@ -1,5 +1,5 @@
 -- Any event: STATE, or what the turn did.
-use Prim.Native.Nat.{ℕ, ◌-◌}
+use Prim.Native.Nat.{ℕ}
 use mathlib.Core.Path.{◌≡◌, refl, sym, ◌∙◌}
 use mathlib.Core.Bool.{Bool, true, false}
 use mathlib.Core.List.{List}
@@ -12,7 +12,6 @@ use Rattle.turn.specs.Turns.{Turned}
 use Rattle.cluster.specs.Any.{Happens}
 use Rattle.site.specs.declared.Cluster.{Cluster}
 use Rattle.site.specs.declared.Told.{Told}
-use Rattle.turn.specs.declared.Happening.TheVariants as happens
 use Rattle.site.proofs.Goods.{good-shown}
 
 pub happens-refused : (c : Cluster) (e : Event) (h k q o : List ℕ) (b : Bool) → b ≡ good_site c.sizes c.depth (site_of c h k q o) → b ≡ false

@@ -6,7 +6,7 @@ use mathlib.Core.List.{List, [], ◌∷◌, ◌++◌}
 use native.Mathlib.Omega.{arith}
 use lib.ListN.{length}
 use lib.Seq.{take-append-le}
-use Rattle.base.specs.Transaction.{Hist, none, Begins}
+use Rattle.base.specs.Transaction.{Hist, Begins}
 use Rattle.base.specs.declared.Txn.{Txn}
 use Rattle.base.specs.declared.Sizes.{Sizes}
 use Rattle.base.proofs.Choice.{tests, by_contra, upd_same, upd₂-at, upd₂-same}

@@ -18,7 +18,7 @@ use Rattle.rules.specs.Cluster.{Cluster, start, Event, play, trace}
 use Rattle.ledger.specs.Delivered.{delivered_of}
 use Rattle.ledger.specs.Records.{is_e, In, Before, gather, begun_by, begun_in}
 use Rattle.ledger.proofs.Lists.{count-in, before-first}
-use Rattle.ledger.proofs.Ghost.{Ghost, Good, Committed, own}
+use Rattle.ledger.proofs.Ghost.{Ghost, Good, Committed}
 use Rattle.ledger.proofs.Candidate.{committed-in, committed-may}
 use Rattle.ledger.proofs.Cluster.{Inv, runs-ok}
 use Rattle.ledger.proofs.Agreement.{inv-agreement}

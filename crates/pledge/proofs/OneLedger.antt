@@ -21,7 +21,7 @@ use Rattle.ledger.proofs.Agreement.{agreement}
 use Rattle.ledger.proofs.Kept.{kept}
 use Rattle.ledger.proofs.SubmittedOnce.{submitted-once}
 use Rattle.ledger.proofs.OneLeader.{one-leader}
-use Rattle.site.specs.Site.{Site, site_of, cluster_of, server_at, good_site}
+use Rattle.site.specs.Site.{site_of, cluster_of, server_at, good_site}
 use Rattle.cluster.specs.Any.{good_fresh, fresh_of, Freshly}
 use Rattle.runs.specs.Runs.{events_of, good_run, Runs}
 use Rattle.site.specs.declared.Cluster.{Cluster}

@@ -1,6 +1,6 @@
 -- A step from a well-formed record leaves a well-formed record; everything it sends is well formed, to another server, and at most six messages.
 use Prim.Native.Nat.{ℕ, zero, suc, ◌+◌, ◌-◌, ◌≤◌, ◌<◌, max}
-use mathlib.Core.Path.{◌≡◌, refl, sym, ap, ◌∙◌}
+use mathlib.Core.Path.{◌≡◌, refl, sym, ◌∙◌}
 use mathlib.Core.Logic.{◌≢◌, ◌⊎◌, inr, ⊎_elim}
 use mathlib.Core.Bool.{Bool, true, false}
 use mathlib.Core.List.{List, []}
@@ -20,7 +20,7 @@ use Rattle.base.proofs.Good.{Follows, good-len, good-up, good-nil, good-last, go
 use Rattle.rules.specs.Message.{Msg, cepoch, newepoch, acke, newleader, ackld, commitld, propose, ack, commit, junk, Send, formed}
 use Rattle.rules.specs.Server.{Dur, Vol, Server, idle, well_formed, good_sizes}
 use Rattle.rules.specs.Tree.{taken, run, to_all, only}
-use Rattle.rules.specs.Step.{delivered, moved, unsynced, counted, keeps, on_oracle, on_restart, l1_join, l2_join, l34_join, on_cepoch, l2_count, on_acke, advance, advanced, l3_sync, l4_advance, on_ackld, on_ack, on_newepoch, on_newleader, on_propose, on_commit, receive, submission, on_submit, Input, oracle, restart, message, submit, step}
+use Rattle.rules.specs.Step.{delivered, moved, keeps, on_oracle, on_restart, l1_join, l2_join, l34_join, on_cepoch, l2_count, on_acke, advance, advanced, l3_sync, l4_advance, on_ackld, on_ack, on_newepoch, on_newleader, on_propose, on_commit, receive, submission, on_submit, Input, oracle, restart, message, submit, step}
 use Rattle.rules.proofs.Table.{cepoch-in, newepoch-in, newleader-in, ackld-in, commitld-in, propose-in, ack-in, commit-in}
 use Rattle.rules.proofs.Trees.{Leaves, run-leaves, gate-leaves, All, all_append, to-all, skips-self, skips-out, few-less, few-less₂}
 use Rattle.rules.proofs.WellFormed.{Sized, Durable, Epochs, Oracle, Sets, Counts, Candidate, Whole, whole, whole-shown, sized}

@@ -1,17 +1,16 @@
 -- The paper's script and its whole output.
-use Prim.Native.Nat.{ℕ}
 use mathlib.Core.Path.{◌≡◌, refl}
 use mathlib.Core.List.{List, [], ◌∷◌}
 use Rattle.base.specs.Choice.{pick, both, either, upd, upd₂, all_below}
 use Rattle.base.specs.Quorum.{just, weight, quorum}
 use Rattle.base.specs.Transaction.{id_at, next_counter, follows, rising, good_hist, same_txn, same_hist}
-use Rattle.base.specs.Record.{Rec, E, B, «V», X, Entry}
+use Rattle.base.specs.Record.{E, B, «V», X, Entry}
 use Rattle.base.specs.declared.Sizes.{Sizes}
 use Rattle.rules.specs.Message.{positive, formed}
 use Rattle.rules.specs.Table.{table, cell}
 use Rattle.rules.specs.Tree.{run, gate, to_all}
 use Rattle.rules.specs.Step.{keeps, on_oracle, on_restart, l1_join, l2_join, l34_join, on_cepoch, beats, l2_count, on_acke, advance, advanced, l3_sync, l4_advance, on_ackld, on_ack, on_newepoch, on_newleader, on_propose, on_commit, receive, on_submit, step}
-use Rattle.rules.specs.Cluster.{start, Event, O, R, D, S, emptied, post, roomy, drops, answer, at, hand, event, after, enters, begun, newly, records, trace}
+use Rattle.rules.specs.Cluster.{start, Event, O, D, S, emptied, post, roomy, drops, answer, at, hand, event, after, enters, begun, newly, records, trace}
 
 three : Sizes
 three = record { n = 3; room = record { 0 = 16 } }

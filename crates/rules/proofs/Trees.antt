@@ -1,7 +1,7 @@
 -- What holds of every answer of a tree, and of everything that is sent.
 use Prim.Native.Nat.{ℕ, zero, suc, ◌+◌, ◌≤◌, ◌<◌}
 use mathlib.Core.Path.{◌≡◌, refl}
-use mathlib.Core.Logic.{◌≢◌, ◌⊎◌, ⊎_elim}
+use mathlib.Core.Logic.{◌≢◌, ⊎_elim}
 use mathlib.Core.Bool.{Bool, true, false, not}
 use mathlib.Core.List.{List, [], ◌∷◌, ◌++◌}
 use native.Mathlib.Omega.{arith}

@@ -1,7 +1,7 @@
 -- What "well formed" says, clause by clause, as facts; and back.
 use Prim.Native.Nat.{ℕ, ◌+◌, ◌≤◌, ◌<◌}
 use mathlib.Core.Path.{◌≡◌}
-use mathlib.Core.Logic.{◌≢◌, ◌⊎◌, ⊎_elim}
+use mathlib.Core.Logic.{◌≢◌, ⊎_elim}
 use mathlib.Core.Bool.{true, false, not}
 use lib.Dec.{eqb, leb, ltb}
 use lib.ListN.{length}

@@ -1,7 +1,7 @@
 -- Laws of words and what they stand for.
 use Prim.Native.Nat.{ℕ, zero, suc, ◌+◌, ◌-◌, ◌*◌, ◌≤◌, ◌<◌}
 use mathlib.Core.Path.{◌≡◌, refl, sym, ap, ◌∙◌}
-use mathlib.Core.Logic.{◌≢◌, ◌⊎◌, ⊎_elim}
+use mathlib.Core.Logic.{◌≢◌, ⊎_elim}
 use mathlib.Core.Bool.{true, false}
 use mathlib.Core.List.{List, [], ◌∷◌, ◌++◌, append_assoc}
 use native.Mathlib.Omega.{arith}
@@ -23,7 +23,7 @@ use Rattle.rules.specs.Message.{Msg, cepoch, newepoch, acke, newleader, ackld, c
 use Rattle.rules.specs.Server.{Server}
 use Rattle.rules.specs.Tree.{to_all, only}
 use Rattle.rules.proofs.Formed.{acke-says, newleader-says}
-use Rattle.rules.specs.Words.{txns, txn_at, flat, zeros, all_zero, hist_words, msg_words, encode, second, laden, tidy, said, read_msg, num, server_with, server_of, tab, state_of, good_words, slot, slot_size, put, boxed}
+use Rattle.rules.specs.Words.{txns, txn_at, flat, zeros, all_zero, hist_words, msg_words, encode, second, laden, tidy, said, read_msg, server_with, server_of, tab, state_of, good_words, slot, slot_size, put, boxed}
 
 -- ---- transactions
 

@@ -1,5 +1,5 @@
 -- Servers and the first-in first-out channels between them, an event, a run, and the records that an event leaves.
-use Rattle.std.specs.Prelude.{ℕ, suc, ◌+◌, Bool, true, false, not, List, [], ◌∷◌, ◌++◌, map, eqb, leb, ltb, length, take, drop}
+use Rattle.std.specs.Prelude.{ℕ, suc, Bool, true, false, not, List, [], ◌∷◌, ◌++◌, map, eqb, leb, ltb, length, take, drop}
 use Rattle.base.specs.Choice.{pick, both, either, upd, upd₂, all_below}
 use Rattle.base.specs.Refusals.{EVENT, MESSAGE, SPENT, ROOM}
 use Rattle.base.specs.Record.{Rec, E, B, «V», X, entry}

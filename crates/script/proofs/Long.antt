@@ -1,6 +1,6 @@
 -- No command has more than 43 bytes: a longer line is bad, and so is what is left of it where it is cut behind them.
 use Prim.Native.Nat.{ℕ, suc, ◌+◌, ◌≤◌, ◌<◌}
-use mathlib.Core.Path.{◌≡◌, refl, sym, ap, ◌∙◌}
+use mathlib.Core.Path.{◌≡◌, refl, ap}
 use mathlib.Core.Logic.{⊎_elim}
 use mathlib.Core.Bool.{true, false}
 use mathlib.Core.List.{List, [], ◌∷◌}
@@ -11,7 +11,6 @@ use Rattle.base.specs.Choice.{pick}
 use Rattle.base.proofs.Choice.{case, le-or-lt}
 use Rattle.script.specs.declared.Value.{Value}
 use Rattle.script.specs.declared.Value.TheVariants.{Is, Refused}
-use Rattle.script.specs.declared.Command.{Command}
 use Rattle.script.specs.declared.Command.TheVariants.{Bad}
 use Rattle.script.specs.Line.{grow, fields, number, one_number, two_numbers, numbers_of, command_of, line_of}
 use Rattle.script.specs.Text.{digits}

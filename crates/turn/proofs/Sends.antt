@@ -1,5 +1,5 @@
 -- What a server sent goes into the rings, after its channels were emptied if it says so.
-use Prim.Native.Nat.{ℕ, ◌-◌}
+use Prim.Native.Nat.{ℕ}
 use mathlib.Core.Path.{◌≡◌, ap, ◌∙◌}
 use mathlib.Core.Bool.{Bool, true, false}
 use mathlib.Core.List.{List}
@@ -7,7 +7,7 @@ use Rattle.base.specs.Choice.{pick}
 use Rattle.base.specs.declared.Sizes.{Sizes}
 use Rattle.rules.specs.Cluster.{post}
 use Rattle.ring.specs.declared.Rings.{Rings}
-use Rattle.ring.specs.Queue.{chans, vacated, Emptied}
+use Rattle.ring.specs.Queue.{vacated, Emptied}
 use Rattle.post.specs.Posts.{sends_at, rungs, strewn, Ready, Posted}
 use Rattle.turn.specs.Events.{sent_rings, sent_queue}
 use Rattle.turn.specs.Turns.{Ships, Shipped}

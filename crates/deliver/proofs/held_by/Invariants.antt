@@ -1,0 +1,12 @@
+use Prim.Native.Nat.{◌-◌, ◌≤◌}
+use mathlib.Core.Path.{◌≡◌}
+use Rattle.base.specs.Quorum.{size}
+use Rattle.rules.specs.Step.{holders}
+use Rattle.rules.specs.Words.{num}
+use Rattle.deliver.proofs.held_by.Given as goal
+
+abbrev pub invariant-loop-i : goal.invariant-loop-i
+invariant-loop-i l = (l.i ≤ l.n) × ((l.k ≤ l.i) × (l.k ≡ size (holders l.me (num l.counts) l.c) l.i))
+
+abbrev pub decreases-loop-i : goal.decreases-loop-i
+decreases-loop-i l = l.n - l.i

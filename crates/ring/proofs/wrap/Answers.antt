@@ -1,0 +1,10 @@
+use mathlib.Core.Path.{sym}
+use Rattle.ring.proofs.Laws.{wrap-yes, wrap-no}
+use borrow.Author.Rules.{rules}
+use Rattle.ring.proofs.wrap.Goals as goal
+
+pub returns-then-k-depth : goal.returns-then-k-depth
+returns-then-k-depth c = sym (wrap-yes _ _ (search rules))
+
+pub returns : goal.returns
+returns c = sym (wrap-no _ _ (search rules))
