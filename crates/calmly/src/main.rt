@@ -1,20 +1,19 @@
-// The calm run of three to seven servers: for each a line with the number of deliveries that recovery took and the number
-// that a submission took after it.
+// The calm run of three to seven servers: for each a line with the number of deliveries that recovery took and the
+// number that a submission took after it.
+#![tactic(auto)]
+
 ghost use Rattle.std.specs.Prelude.{◌≤◌, ◌<◌, ◌≡◌, true};
 ghost use Rattle.cluster.specs.Any.{good_fresh};
 ghost use Rattle.pledge.specs.Moves.{Counted};
 ghost use Rattle.calmly.specs.Counts.{sizes_of};
 
 use base::{Place, Sizes};
-use libc::STDOUT_FILENO;
 use pledge::Calmed;
+use std::io;
 
 // Two numbers on a line.
-fn print_pair(a: u64, b: u64) {
-    io::print_decimal(STDOUT_FILENO, a);
-    io::write_all(STDOUT_FILENO, &[b' ']);
-    io::print_decimal(STDOUT_FILENO, b);
-    io::write_all(STDOUT_FILENO, &[b'\n']);
+fn print_pair(rt: &impl Print, a: u64, b: u64) -> io::Result<()> {
+    println!(rt; "{a} {b}")
 }
 
 // A fresh cluster of these sizes on the lent words, and its calm run with x as leader.
@@ -55,18 +54,18 @@ fn calm_of(n: u8) -> Calmed
 }
 
 // Its two numbers.
-fn print_of(n: u8)
+fn print_of(rt: &impl Print, n: u8) -> io::Result<()>
     requires { (3 ≤ n) × (n ≤ 7) }
 {
     let t = calm_of(n);
-    print_pair(t.first as u64, t.second as u64);
+    print_pair(rt, t.first as u64, t.second as u64)
 }
 
 // Three to seven servers.
-fn main() {
-    print_of(3);
-    print_of(4);
-    print_of(5);
-    print_of(6);
-    print_of(7);
+fn main(rt: HostRuntime) -> io::Result<()> {
+    print_of(&rt, 3)?;
+    print_of(&rt, 4)?;
+    print_of(&rt, 5)?;
+    print_of(&rt, 6)?;
+    print_of(&rt, 7)
 }

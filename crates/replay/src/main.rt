@@ -1,14 +1,18 @@
 // Replays a script from standard input, and writes its trace to standard output.
-ghost use Rattle.std.specs.Prelude.{◌+◌, ◌*◌, ◌≤◌, ◌<◌, ◌≡◌, length};
+#![tactic(auto)]
+
+ghost use Rattle.std.specs.Prelude.{◌+◌, ◌*◌, ◌≤◌, ◌<◌, ◌≡◌, length, IfOk};
 ghost use Rattle.scribe.specs.Telling.{MOST};
 ghost use Rattle.replay.specs.Lent.{Lent};
 
 use base::{Place, Sizes};
 use script::{Command, Note};
 use site::Cluster;
+use std::io;
+use std::io::{Read, Write};
 
 // Where the program is: N is awaited (0), events (1), or all is over (2); the number of the next line; the cluster.
-#[derive(Drop)]
+#[derive(Clone, Copy)]
 struct Play {
     phase: u8,
     line: u64,
@@ -30,30 +34,31 @@ fn sizes(n: u8) -> Sizes
 }
 
 // The only output of a script whose first line is not N.
-fn no_header(c: Cluster, out: &mut [u8]) -> Play
+fn no_header<W: Write>(to: &mut W, c: Cluster, out: &mut [u8]) -> io::Result<Play>
     requires { MOST ≤ length out.old }
-    ensures { result.cluster ≡ c }
+    ensures { IfOk result (λ r. r.cluster ≡ c) }
 {
     let end = script::write_record(out, 0, Note::Refuses(1, 1));
-    io::write_all(1, &out[0..end]);
-    Play {
+    to.write_all(&out[0..end])?;
+    Ok(Play {
         phase: 2,
         line: 1,
         cluster: c,
-    }
+    })
 }
 
 // The first line: N, and a fresh cluster on the parts of the words that n servers need.
-fn begin(
+fn begin<W: Write>(
+    to: &mut W,
     n: u8,
     hists: &mut [u64],
     cands: &mut [u64],
     queue: &mut [u64],
     outbox: &[u64],
     out: &mut [u8],
-) -> Play
+) -> io::Result<Play>
     requires { (n ≤ 7) × (Lent hists.old cands.old queue.old out.old) }
-    ensures { result.cluster.sizes.n ≤ 7 }
+    ensures { IfOk result (λ r. r.cluster.sizes.n ≤ 7) }
 {
     let k = n as usize;
     let w = 32 * k;
@@ -68,17 +73,18 @@ fn begin(
         outbox,
     );
     let end = script::write_header(out, 0, n);
-    io::write_all(1, &out[0..end]);
+    to.write_all(&out[0..end])?;
     let d = t.cluster;
-    Play {
+    Ok(Play {
         phase: 1,
         line: 2,
         cluster: d,
-    }
+    })
 }
 
 // A line after the first.
-fn follow<'a>(
+fn follow<'a, W: Write>(
+    to: &mut W,
     p: Play,
     cmd: Command,
     hists: &mut [u64],
@@ -86,9 +92,9 @@ fn follow<'a>(
     queue: &'a mut [u64],
     outbox: &mut [u64],
     out: &mut [u8],
-) -> Play
+) -> io::Result<Play>
     requires { (p.cluster.sizes.n ≤ 7) × (Lent hists.old cands.old queue.old out.old) }
-    ensures { result.cluster.sizes.n ≤ 7 }
+    ensures { IfOk result (λ r. r.cluster.sizes.n ≤ 7) }
 {
     let c = p.cluster;
     let k = c.sizes.n as usize;
@@ -105,18 +111,19 @@ fn follow<'a>(
         out,
     );
     let end = t.end;
-    io::write_all(1, &out[0..end]);
+    to.write_all(&out[0..end])?;
     let d = t.cluster;
     let next = counted(p.line);
-    Play {
+    Ok(Play {
         phase: 1,
         line: next,
         cluster: d,
-    }
+    })
 }
 
 // A line, whatever it is.
-fn meet<'a>(
+fn meet<'a, W: Write>(
+    to: &mut W,
     p: Play,
     cmd: Command,
     hists: &mut [u64],
@@ -124,23 +131,23 @@ fn meet<'a>(
     queue: &'a mut [u64],
     outbox: &mut [u64],
     out: &mut [u8],
-) -> Play
+) -> io::Result<Play>
     requires { (p.cluster.sizes.n ≤ 7) × (Lent hists.old cands.old queue.old out.old) }
-    ensures { result.cluster.sizes.n ≤ 7 }
+    ensures { IfOk result (λ r. r.cluster.sizes.n ≤ 7) }
 {
     if p.phase == 2 {
-        return p;
+        return Ok(p);
     }
     if p.phase == 1 {
-        return follow(p, cmd, hists, cands, queue, outbox, out);
+        return follow(to, p, cmd, hists, cands, queue, outbox, out);
     }
     if let Command::Begin(n) = cmd {
         if n <= 7 {
-            return begin(n, hists, cands, queue, outbox, out);
+            return begin(to, n, hists, cands, queue, outbox, out);
         }
     }
     let c = p.cluster;
-    no_header(c, out)
+    no_header(to, c, out)
 }
 
 // The place of the next newline from `from` on, or the end.
@@ -185,7 +192,7 @@ fn keep(text: &mut [u8], len: usize, input: &[u8], from: usize, to: usize) -> us
 }
 
 // Where the program is, how many bytes of the next line are kept, and whether the input goes on.
-#[derive(Drop)]
+#[derive(Clone, Copy)]
 struct Fed {
     play: Play,
     len: usize,
@@ -193,7 +200,8 @@ struct Fed {
 }
 
 // The rest of a line that ends at e, and what it does.
-fn line<'a>(
+fn line<'a, W: Write>(
+    to: &mut W,
     f: Fed,
     input: &[u8],
     from: usize,
@@ -204,23 +212,25 @@ fn line<'a>(
     queue: &'a mut [u64],
     outbox: &mut [u64],
     out: &mut [u8],
-) -> Fed
-    requires { (f.play.cluster.sizes.n ≤ 7) × ((f.len ≤ 64) × ((length text.old ≡ 64) × ((e ≤ length input.now) × (Lent hists.old cands.old queue.old out.old)))) }
-    ensures { (result.play.cluster.sizes.n ≤ 7) × (result.len ≤ 64) }
+) -> io::Result<Fed>
+    requires { (f.play.cluster.sizes.n ≤ 7) × ((f.len ≤ 64) × ((length text.old ≡ 64) ×
+        ((e ≤ length input.now) × (Lent hists.old cands.old queue.old out.old)))) }
+    ensures { IfOk result (λ r. (r.play.cluster.sizes.n ≤ 7) × (r.len ≤ 64)) }
 {
     let len = keep(text, f.len, input, from, e);
     let cmd = script::parse(&text[0..len]);
     let p = f.play;
-    let q = meet(p, cmd, hists, cands, queue, outbox, out);
-    Fed {
+    let q = meet(to, p, cmd, hists, cands, queue, outbox, out)?;
+    Ok(Fed {
         play: q,
         len: 0,
         more: true,
-    }
+    })
 }
 
 // The first n bytes of the input: every line that ends in them, and the rest kept.
-fn feed<'a>(
+fn feed<'a, W: Write>(
+    to: &mut W,
     f: Fed,
     input: &[u8],
     n: usize,
@@ -230,51 +240,58 @@ fn feed<'a>(
     queue: &'a mut [u64],
     outbox: &mut [u64],
     out: &mut [u8],
-) -> Fed
-    requires { (f.play.cluster.sizes.n ≤ 7) × ((f.len ≤ 64) × ((length text.old ≡ 64) × ((n ≤ length input.now) × ((n ≤ 4096) × (Lent hists.old cands.old queue.old out.old))))) }
-    ensures { (result.play.cluster.sizes.n ≤ 7) × (result.len ≤ 64) }
+) -> io::Result<Fed>
+    requires { (f.play.cluster.sizes.n ≤ 7) × ((f.len ≤ 64) × ((length text.old ≡ 64) × ((n ≤ length input.now) ×
+        ((n ≤ 4096) × (Lent hists.old cands.old queue.old out.old))))) }
+    ensures { IfOk result (λ r. (r.play.cluster.sizes.n ≤ 7) × (r.len ≤ 64)) }
 {
     let mut g = f;
     let mut from: usize = 0;
     let mut e = newline(input, 0, n);
     while e < n {
-        g = line(g, input, from, e, text, hists, cands, queue, outbox, out);
+        g = line(
+            to, g, input, from, e, text, hists, cands, queue, outbox, out,
+        )?;
         from = e + 1;
         e = newline(input, from, n);
     }
     let len = keep(text, g.len, input, from, n);
     let p = g.play;
-    Fed {
+    Ok(Fed {
         play: p,
         len,
         more: true,
-    }
+    })
 }
 
 // Text after the last newline is a bad line; without a first line there is no header.
-fn end<'a>(
+fn end<'a, W: Write>(
+    to: &mut W,
     f: Fed,
     hists: &mut [u64],
     cands: &'a mut [u64],
     queue: &'a mut [u64],
     outbox: &mut [u64],
     out: &mut [u8],
-)
+) -> io::Result<()>
     requires { (f.play.cluster.sizes.n ≤ 7) × (Lent hists.old cands.old queue.old out.old) }
 {
     let p = f.play;
     if p.phase == 0 {
         let c = p.cluster;
-        no_header(c, out);
-        return;
+        no_header(to, c, out)?;
+        return Ok(());
     }
     if 0 < f.len {
-        meet(p, Command::Bad, hists, cands, queue, outbox, out);
+        meet(to, p, Command::Bad, hists, cands, queue, outbox, out)?;
     }
+    Ok(())
 }
 
 // One part of the input.
-fn some<'a>(
+fn some<'a, R: Read, W: Write>(
+    from: &mut R,
+    to: &mut W,
     f: Fed,
     input: &mut [u8],
     text: &mut [u8],
@@ -283,21 +300,21 @@ fn some<'a>(
     queue: &'a mut [u64],
     outbox: &mut [u64],
     out: &mut [u8],
-) -> Fed
-    requires { (f.play.cluster.sizes.n ≤ 7) × ((f.len ≤ 64) × ((length text.old ≡ 64) × ((length input.old ≡ 4096) × (Lent hists.old cands.old queue.old out.old)))) }
-    ensures { (result.play.cluster.sizes.n ≤ 7) × (result.len ≤ 64) }
+) -> io::Result<Fed>
+    requires { (f.play.cluster.sizes.n ≤ 7) × ((f.len ≤ 64) × ((length text.old ≡ 64) ×
+        ((length input.old ≡ 4096) × (Lent hists.old cands.old queue.old out.old)))) }
+    ensures { IfOk result (λ r. (r.play.cluster.sizes.n ≤ 7) × (r.len ≤ 64)) }
 {
-    let got = libc::read(0, input);
-    let n = io::count(got, input);
+    let n = from.read(input)?;
     if n == 0 {
         let p = f.play;
-        return Fed {
+        return Ok(Fed {
             play: p,
             len: f.len,
             more: false,
-        };
+        });
     }
-    feed(f, input, n, text, hists, cands, queue, outbox, out)
+    feed(to, f, input, n, text, hists, cands, queue, outbox, out)
 }
 
 // A proved loop has to end, so it counts its turns down, from a number that no run uses up.
@@ -312,7 +329,9 @@ fn left(turns: u64, more: bool) -> u64
 }
 
 // All of the input, part after part.
-fn drive<'a>(
+fn drive<'a, R: Read, W: Write>(
+    from: &mut R,
+    to: &mut W,
     f: Fed,
     input: &mut [u8],
     text: &mut [u8],
@@ -321,16 +340,17 @@ fn drive<'a>(
     queue: &'a mut [u64],
     outbox: &mut [u64],
     out: &mut [u8],
-)
-    requires { (f.play.cluster.sizes.n ≤ 7) × ((f.len ≤ 64) × ((length text.old ≡ 64) × ((length input.old ≡ 4096) × (Lent hists.old cands.old queue.old out.old)))) }
+) -> io::Result<()>
+    requires { (f.play.cluster.sizes.n ≤ 7) × ((f.len ≤ 64) × ((length text.old ≡ 64) ×
+        ((length input.old ≡ 4096) × (Lent hists.old cands.old queue.old out.old)))) }
 {
     let mut g = f;
     let mut turns = u64::MAX;
     while 0 < turns {
-        g = some(g, input, text, hists, cands, queue, outbox, out);
+        g = some(from, to, g, input, text, hists, cands, queue, outbox, out)?;
         turns = left(turns, g.more);
     }
-    end(g, hists, cands, queue, outbox, out);
+    end(to, g, hists, cands, queue, outbox, out)
 }
 
 // Before the first line.
@@ -356,7 +376,9 @@ fn idle() -> Fed
     }
 }
 
-fn main() {
+fn main(rt: HostRuntime) -> io::Result<()> {
+    let mut from = rt.stdin();
+    let mut to = rt.stdout();
     let mut input = [0u8; 4096];
     let mut text = [0u8; 64];
     let mut hists = [0u64; 224];
@@ -366,6 +388,8 @@ fn main() {
     let mut out = [0u8; 12480];
     let f = idle();
     drive(
+        &mut from,
+        &mut to,
         f,
         &mut input,
         &mut text,
@@ -374,5 +398,5 @@ fn main() {
         &mut queue,
         &mut outbox,
         &mut out,
-    );
+    )
 }
