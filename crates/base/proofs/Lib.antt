@@ -1,3 +1,4 @@
+pub mod Refusals
 pub mod Choice
 pub mod Quorum
 pub mod History

@@ -1,5 +1,5 @@
 -- The paper's number of each refusal.
-use Rattle.std.specs.Prelude.{ℕ}
+use Rattle.std.specs.Prelude.{ℕ, Option, Some, None, Result, Ok, Err}
 use Rattle.base.specs.declared.Refusal.{Refusal}
 use Rattle.base.specs.declared.Refusal.TheVariants.{State, Event, Message, Role, Sender, Phase, Epoch, Gap, Undo, Full, Spent, Room, Trace}
 
@@ -17,6 +17,16 @@ number Full = 10
 number Spent = 11
 number Room = 12
 number Trace = 13
+
+-- 0 where nothing is refused, else the refusal's number
+abbrev pub number_of : Option Refusal → ℕ
+number_of None = 0
+number_of (Some r) = number r
+
+-- the same of an answer
+abbrev pub code_of : {A : Type 0} → Result A Refusal → ℕ
+code_of (Ok a) = 0
+code_of (Err r) = number r
 
 abbrev pub STATE : ℕ
 STATE = number State

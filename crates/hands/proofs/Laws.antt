@@ -1,6 +1,6 @@
 -- One law for each return of the hands.
 use Prim.Native.Nat.{ℕ, zero, suc, ◌+◌, ◌-◌, ◌*◌, ◌≤◌, ◌<◌}
-use mathlib.Core.Path.{◌≡◌, refl, sym, ap, ◌∙◌}
+use mathlib.Core.Path.{◌≡◌, refl, sym, ap, subst, ◌∙◌}
 use mathlib.Core.Logic.{◌≢◌, ⊎_elim}
 use mathlib.Core.Bool.{Bool, true, false, not}
 use mathlib.Core.List.{List, [], ◌∷◌, ◌++◌, append-nil, append_assoc}
@@ -8,8 +8,8 @@ use native.Mathlib.Omega.{arith}
 use native.Mathlib.Numerals.{add-one}
 use native.Mathlib.Nat.{mul-le-mul_left, mul-suc}
 use lib.Dec.{eqb, leb}
-use lib.ListN.{length, take, drop, get_or, set, length-append, length-drop}
-use lib.Seq.{length-take-le, take-suc, take-suc-set, take-take, drop-drop}
+use lib.ListN.{length, take, drop, set, length-append, length-drop}
+use lib.Seq.{length-take-le, take-append_seam, take-take, drop-drop}
 use borrow.Author.Tests.{eqb-true, leb-true, eq-eqb, ne_eqb}
 use borrow.Rule.Slice.PartMut.{put_mid}
 use Rattle.base.specs.Choice.{pick, both, either}
@@ -29,30 +29,20 @@ use Rattle.hands.specs.Hands.{HistReady, CandReady, other, others, Slots, Sent, 
 
 -- ---- words copied to a place, and zeros after them
 
-pub fill_start : (d s : List ℕ) (at : ℕ) → take (at + 0) d ≡ take at d ++ take 0 s
-fill_start d s at = let e : at + 0 ≡ at = omega arith in rw e (sym (append-nil (take at d)))
-
-pub fill_on : (d q s : List ℕ) (at i : ℕ) → at + i < length q → i < length s → take (at + i) q ≡ take at d ++ take i s → take (at + (i + 1)) (set q (at + i) (get_or s i 0)) ≡ take at d ++ take (i + 1) s
-fill_on d q s at i l m e =
-    let k : at + (i + 1) ≡ suc (at + i) = omega arith in
-    rw (k, take-suc-set q (at + i) (get_or s i 0) l, e, add-one i, take-suc s i 0 m, append_assoc)
-
-pub fill_end : (d q s r : List ℕ) (at n i : ℕ) → n ≤ i → i ≤ n → length q ≡ length d → take (at + i) q ≡ take at d ++ take i s → r ≡ take (at + n) q ++ zeros (length q - (at + n))
-    → r ≡ take at d ++ (take n s ++ zeros (length d - (at + n)))
-fill_end d q s r at n i h k l e f =
-    let j : i ≡ n = omega arith in
-    let g : take (at + n) q ≡ take at d ++ take n s = rw (← j) e in
-    f ∙ rw (g, l, append_assoc)
+pub filled : (d s r w : List ℕ) (at n len : ℕ) → at + n ≤ length d → n ≤ length s → len ≡ n → r ≡ take n s → w ≡ take (at + n) (put_mid at len d r) ++ zeros (length (put_mid at len d r) - (at + n))
+    → w ≡ take at d ++ (take n s ++ zeros (length d - (at + n)))
+unfolding put
+filled d s r w at n len h k j e f =
+    let l : length r ≡ n = ap length e ∙ length-take-le n s k in
+    let x = take at d ++ r in
+    let y = drop (at + length r) d in
+    let p : put_mid at len d r ≡ x ++ y = mid-put at len d r (l ∙ sym j) in
+    let q : length x ≡ at + n = length-append (take at d) r ∙ omega (arith, l, length-take-le at d (omega arith)) in
+    let t : take (at + n) (x ++ y) ≡ x = subst (λ (i : ℕ). take i (x ++ y) ≡ x) q (take-append_seam x y) in
+    let u : length (x ++ y) ≡ length d = length-append x y ∙ omega (arith, q, l, length-drop (at + length r) d) in
+    f ∙ rw (p, t, u, e, append_assoc)
 
 -- ---- a slot
-
-pub five : (q : List ℕ) (a b c d e : ℕ) → 5 ≤ length q → take 5 (set (set (set (set (set q 0 a) 1 b) 2 c) 3 d) 4 e) ≡ a ∷ b ∷ c ∷ d ∷ e ∷ []
-five [] a b c d e h = absurd (omega arith)
-five (v ∷ []) a b c d e h = absurd (omega arith)
-five (v ∷ w ∷ []) a b c d e h = absurd (omega arith)
-five (v ∷ w ∷ x ∷ []) a b c d e h = absurd (omega arith)
-five (v ∷ w ∷ x ∷ y ∷ []) a b c d e h = absurd (omega arith)
-five (v ∷ w ∷ x ∷ y ∷ z ∷ q) a b c d e h = refl
 
 pub slot-put : (out s : List ℕ) (room n len l at to kind e x : ℕ) (src : List ℕ) → n ≤ room → 2 * n ≤ length src → len ≡ slot_size room → l ≡ slot_size room
     → s ≡ to ∷ kind ∷ e ∷ x ∷ n ∷ (take (2 * n) src ++ zeros (l - (5 + 2 * n))) → put_mid at len out s ≡ put out at (to ∷ msg_words room kind e x (txns n src))
@@ -183,20 +173,18 @@ module _ (z : Sizes) (o o' : List ℕ) (k k' me : ℕ) (c : Cast) (h : List ℕ)
         count = s.count ∙ ap (λ (i : ℕ). k + i) (sym (length-all z.n me (has c.to) m));
       }
 
-  pub with-hist₃ : c.kind ≡ 3 → Spread z.room.0 o k z.n me (has c.to) (msg_words z.room.0 c.kind c.e.0 c.x.0 (txns len h)) o' k'
+  pub with-hist : 3 ≤ c.kind → c.kind ≤ 4 → Spread z.room.0 o k z.n me (has c.to) (msg_words z.room.0 c.kind c.e.0 c.x.0 (txns len h)) o' k'
       → Boxed z.room.0 o k (cast_of z.n me c (txns len h) t) o' k'
   unfolding load pick either
-  with-hist₃ e s = laden (txns len h) (rw (eq-eqb c.kind 3 e)) s
+  with-hist a b s = laden (txns len h) (⊎_elim
+      (λ (e : c.kind ≡ 3). rw e)
+      (λ (n : c.kind ≢ 3). let e : c.kind ≡ 4 = omega arith in rw e)
+      (eq-or c.kind 3)) s
 
-  pub with-hist₄ : c.kind ≢ 3 → c.kind ≡ 4 → Spread z.room.0 o k z.n me (has c.to) (msg_words z.room.0 c.kind c.e.0 c.x.0 (txns len h)) o' k'
-      → Boxed z.room.0 o k (cast_of z.n me c (txns len h) t) o' k'
-  unfolding load pick either
-  with-hist₄ a e s = laden (txns len h) (rw (ne_eqb c.kind 3 a, eq-eqb c.kind 4 e)) s
-
-  pub with-txn : c.kind ≢ 3 → c.kind ≢ 4 → c.kind ≡ 7 → Spread z.room.0 o k z.n me (has c.to) (msg_words z.room.0 c.kind c.e.0 c.x.0 (txns 1 (t.id.0 ∷ t.val ∷ []))) o' k'
+  pub with-txn : c.kind ≡ 7 → Spread z.room.0 o k z.n me (has c.to) (msg_words z.room.0 c.kind c.e.0 c.x.0 (txns 1 (t.id.0 ∷ t.val ∷ []))) o' k'
       → Boxed z.room.0 o k (cast_of z.n me c (txns len h) t) o' k'
   unfolding load pick either txns
-  with-txn a b e s = laden (t ∷ []) (rw (ne_eqb c.kind 3 a, ne_eqb c.kind 4 b, eq-eqb c.kind 7 e)) s
+  with-txn e s = laden (t ∷ []) (rw e) s
 
   pub with_none : c.kind ≢ 3 → c.kind ≢ 4 → c.kind ≢ 7 → Spread z.room.0 o k z.n me (has c.to) (msg_words z.room.0 c.kind c.e.0 c.x.0 (txns 0 h)) o' k'
       → Boxed z.room.0 o k (cast_of z.n me c (txns len h) t) o' k'
@@ -221,38 +209,26 @@ appended H l h t e q z =
 module _ (H from len : ℕ) (t : Txn) (h k m : List ℕ) (r : HistReady H from len h k m) where
   pub hist-stays : from ≡ 0 → h ≡ hist_words H (hist_from from len t h k m)
   unfolding hist_from pick
-  hist-stays z = rw (eq-eqb from 0 z) (sym (as-hist H len h r.fits r.words (r.stays z)))
+  hist-stays z = rw z (sym (as-hist H len h r.fits r.words (r.stays z)))
 
-  pub hist-told : (h' : List ℕ) → from ≢ 0 → from ≡ 1 → h' ≡ take (2 * len) m ++ zeros (length h - 2 * len) → h' ≡ hist_words H (hist_from from len t h k m)
+  pub hist-told : (h' : List ℕ) → from ≡ 1 → h' ≡ take (2 * len) m ++ zeros (length h - 2 * len) → h' ≡ hist_words H (hist_from from len t h k m)
   unfolding hist_from pick
-  hist-told h' y z q = q ∙ rw (r.words, ← copied-hist H len m r.fits (r.told z), ne_eqb from 0 y, eq-eqb from 1 z)
+  hist-told h' z q = q ∙ rw (r.words, ← copied-hist H len m r.fits (r.told z), z)
 
-  pub hist-chosen : (h' : List ℕ) → from ≢ 0 → from ≢ 1 → from ≡ 2 → h' ≡ take (2 * len) k ++ zeros (length h - 2 * len) → h' ≡ hist_words H (hist_from from len t h k m)
+  pub hist-chosen : (h' : List ℕ) → from ≡ 2 → h' ≡ take (2 * len) k ++ zeros (length h - 2 * len) → h' ≡ hist_words H (hist_from from len t h k m)
   unfolding hist_from pick
-  hist-chosen h' y w z q = q ∙ rw (r.words, ← copied-hist H len k r.fits (r.chosen z), ne_eqb from 0 y, ne_eqb from 1 w, eq-eqb from 2 z)
+  hist-chosen h' z q = q ∙ rw (r.words, ← copied-hist H len k r.fits (r.chosen z), z)
 
-  pub told-fits : from ≡ 1 → (2 * len ≤ length h) × (2 * len ≤ length m)
-  told-fits z = (omega (arith, r.words, r.fits), r.told z)
-
-  pub chosen-fits : from ≡ 2 → (2 * len ≤ length h) × (2 * len ≤ length k)
-  chosen-fits z = (omega (arith, r.words, r.fits), r.chosen z)
-
-  last-case : from ≢ 0 → from ≢ 1 → from ≢ 2 → from ≡ 3
-  last-case y w v = omega (arith, r.known, y, w, v)
-
-  pub longer-fits : from ≢ 0 → from ≢ 1 → from ≢ 2 → (2 ≤ 2 * len) × (2 * len ≤ length h)
-  longer-fits y w v = (omega (arith, r.some (last-case y w v)), omega (arith, r.words, r.fits))
-
-  pub hist-longer : from ≢ 0 → from ≢ 1 → from ≢ 2 → set (set h (2 * len - 2) t.id.0) (2 * len - 1) t.val ≡ hist_words H (hist_from from len t h k m)
+  pub hist-longer : from ≡ 3 → set (set h (2 * len - 2) t.id.0) (2 * len - 1) t.val ≡ hist_words H (hist_from from len t h k m)
   unfolding hist_from pick
-  hist-longer y w v =
-      let i : 1 ≤ len = r.some (last-case y w v) in
+  hist-longer z =
+      let i : 1 ≤ len = r.some z in
       let f : len ≤ H = r.fits in
       let e : length h ≡ 2 * H = r.words in
       let p : 2 * len - 2 ≡ 2 * (len - 1) = omega arith in
       let q : 2 * len - 1 ≡ suc (2 * (len - 1)) = omega arith in
-      rw (p, q, ne_eqb from 0 y, ne_eqb from 1 w, ne_eqb from 2 v)
-      (put-sets h (t.id.0 ∷ t.val ∷ []) (2 * (len - 1)) (omega arith) ∙ appended H (len - 1) h t e (omega arith) (r.free (last-case y w v)))
+      rw (p, q, z)
+      (put-sets h (t.id.0 ∷ t.val ∷ []) (2 * (len - 1)) (omega arith) ∙ appended H (len - 1) h t e (omega arith) (r.free z))
 
 -- ---- the candidate after a step
 
@@ -263,36 +239,24 @@ zeros-append (suc a) b = let e : suc a + b ≡ suc (a + b) = omega arith in rw e
 
 module _ (H from len old : ℕ) (h k m : List ℕ) (r : CandReady H from len old h k m) where
   -- the words of the transactions from len to old are cleared
-  pub cand-cut : (b : ℕ) (ys : List ℕ) → from ≡ 0 → b ≡ 2 * old → ys ≡ take (2 * len) (take b k) ++ zeros (length (take b k) - 2 * len) → put_mid 0 b k ys ≡ hist_words H (cand_from from len h k m)
+  pub cand-cut : (ys : List ℕ) → from ≡ 0 → ys ≡ take (2 * len) (take (2 * old) k) ++ zeros (length (take (2 * old) k) - 2 * len) → ys ++ drop (2 * old) k ≡ hist_words H (cand_from from len h k m)
   unfolding cand_from pick
-  cand-cut b ys z f q =
+  cand-cut ys z q =
       let a : len ≤ old = r.stays z in
       let d : old ≤ H = r.held in
       let e : length k ≡ 2 * H = r.words in
       let u : 2 * old - 2 * len + (2 * H - 2 * old) ≡ 2 * H - 2 * len = omega arith in
       let w : drop (2 * old) k ≡ zeros (2 * H - 2 * old) = zero-words (drop (2 * old) k) (r.free z) ∙ ap zeros (length-drop (2 * old) k ∙ rw e) in
-      let p : ys ≡ take (2 * len) (take (2 * old) k) ++ zeros (length (take (2 * old) k) - 2 * len) = rw f at q in
-      rw (p, f, w, take-take (2 * len) (2 * old) k (omega arith), length-take-le (2 * old) k (omega arith), append_assoc, zeros-append (2 * old - 2 * len) (2 * H - 2 * old), u, eq-eqb from 0 z)
+      rw (q, w, take-take (2 * len) (2 * old) k (omega arith), length-take-le (2 * old) k (omega arith), append_assoc, zeros-append (2 * old - 2 * len) (2 * H - 2 * old), u, z)
       (sym (copied-hist H len k r.fits (omega arith)))
 
-  pub cut_fits : from ≡ 0 → (2 * len ≤ 2 * old) × (2 * old ≤ length k)
-  cut_fits z = (omega (arith, r.stays z), omega (arith, r.held, r.words))
-
-  pub told-fits₂ : from ≡ 1 → (2 * len ≤ length k) × (2 * len ≤ length m)
-  told-fits₂ z = (omega (arith, r.words, r.fits), r.told z)
-
-  pub copied-fits : from ≢ 0 → from ≢ 1 → (2 * len ≤ length k) × (2 * len ≤ length h)
-  copied-fits y w = (omega (arith, r.words, r.fits), r.copied (omega (arith, r.known, y, w)))
-
-  pub cand-told : (k' : List ℕ) → from ≢ 0 → from ≡ 1 → k' ≡ take (2 * len) m ++ zeros (length k - 2 * len) → k' ≡ hist_words H (cand_from from len h k m)
+  pub cand-told : (k' : List ℕ) → from ≡ 1 → k' ≡ take (2 * len) m ++ zeros (length k - 2 * len) → k' ≡ hist_words H (cand_from from len h k m)
   unfolding cand_from pick
-  cand-told k' y z q = q ∙ rw (r.words, ← copied-hist H len m r.fits (r.told z), ne_eqb from 0 y, eq-eqb from 1 z)
+  cand-told k' z q = q ∙ rw (r.words, ← copied-hist H len m r.fits (r.told z), z)
 
-  pub cand-copied : (k' : List ℕ) → from ≢ 0 → from ≢ 1 → k' ≡ take (2 * len) h ++ zeros (length k - 2 * len) → k' ≡ hist_words H (cand_from from len h k m)
+  pub cand-copied : (k' : List ℕ) → from ≡ 2 → k' ≡ take (2 * len) h ++ zeros (length k - 2 * len) → k' ≡ hist_words H (cand_from from len h k m)
   unfolding cand_from pick
-  cand-copied k' y w q =
-      let v : from ≡ 2 = omega (arith, r.known, y, w) in
-      q ∙ rw (r.words, ← copied-hist H len h r.fits (r.copied v), ne_eqb from 0 y, ne_eqb from 1 w)
+  cand-copied k' z q = q ∙ rw (r.words, ← copied-hist H len h r.fits (r.copied z), z)
 
 -- ---- the whole
 

@@ -1,20 +1,21 @@
 -- What a plan means as an answer of the rules, and what it promises to the hands that carry it out.
-use Rattle.std.specs.Prelude.{ℕ, ◌+◌, ◌-◌, ◌≤◌, ◌<◌, ◌≡◌, ◌≢◌, Bool, true, false, List, [], ◌∷◌, ◌++◌, eqb, leb, length, set, replicate}
+use Rattle.std.specs.Prelude.{ℕ, ◌+◌, ◌-◌, ◌≤◌, ◌<◌, ◌≡◌, ◌≢◌, Bool, true, false, List, [], ◌∷◌, ◌++◌, eqb, leb, length, set, replicate, Result, Ok, Err, IfOk}
 use Rattle.base.specs.Choice.{pick, both, either}
-use Rattle.base.specs.Refusals.{ROLE, PHASE}
+use Rattle.base.specs.Refusals.{number, ROLE, PHASE}
 use Rattle.base.specs.Transaction.{Hist}
 use Rattle.base.specs.declared.Epoch.{Epoch}
 use Rattle.base.specs.declared.Place.{Place}
+use Rattle.base.specs.declared.Refusal.{Refusal}
 use Rattle.base.specs.declared.Txn.{Txn}
 use Rattle.base.specs.declared.Sizes.{Sizes}
 use Rattle.rules.specs.declared.State.{State}
-use Rattle.rules.specs.Message.{Msg, cepoch, newepoch, acke, newleader, ackld, commitld, propose, ack, commit, junk, Send}
+use Rattle.rules.specs.Message.{Msg, cepoch, newepoch, acke, newleader, ackld, commitld, propose, ack, commit, Send}
 use Rattle.rules.specs.Tree.{Res, refused, taken, to_all}
 use Rattle.rules.specs.Words.{txns, has, server_with}
 use Rattle.plan.specs.declared.Cast.{Cast}
 use Rattle.plan.specs.declared.Plan.{Plan}
 use Rattle.plan.specs.declared.Message.{Message}
-use Rattle.plan.specs.declared.Message.TheVariants.{Cepoch, Newepoch, Acke, Newleader, Ackld, Commitld, Propose, Ack, Commit, Bad}
+use Rattle.plan.specs.declared.Message.TheVariants.{Cepoch, Newepoch, Acke, Newleader, Ackld, Commitld, Propose, Ack, Commit}
 
 abbrev pub ep : ℕ → Epoch
 ep n = record { 0 = n }
@@ -26,9 +27,10 @@ pl n = record { 0 = n }
 unfoldable pub elsewhere : ℕ → ℕ → ℕ → ℕ
 elsewhere lo hi stage = pick (both (leb lo stage) (leb stage hi)) PHASE ROLE
 
--- what comes after a test whose refusal is k, or 0
-unfoldable pub after : ℕ → Res → Res
-after k x = pick (eqb k 0) x (refused k)
+-- what comes after a test that passes; or its refusal
+abbrev pub after : {A : Type 0} → Result A Refusal → Res → Res
+after (Ok a) x = x
+after (Err c) x = refused (number c)
 
 -- ---- messages
 
@@ -43,7 +45,6 @@ meant (Commitld e n) w = commitld e.0 n.0
 meant (Propose e n t) w = propose e.0 n.0 t
 meant (Ack e n) w = ack e.0 n.0
 meant (Commit e n) w = commit e.0 n.0
-meant Bad w = junk
 
 -- how many transactions lie in its words
 unfoldable pub held : Message → ℕ
@@ -56,7 +57,6 @@ held (Commitld e n) = 0
 held (Propose e n t) = 0
 held (Ack e n) = 0
 held (Commit e n) = 0
-held Bad = 0
 
 -- ---- casts
 
@@ -97,10 +97,9 @@ cand_of r h k m = cand_from r.cand r.state.cand_len.0 h k m
 unfoldable pub sends : Sizes → Plan → Hist → List Send
 sends z r h = cast_of z.n r.state.me r.one h r.txn ++ cast_of z.n r.state.me r.two h r.txn
 
-unfoldable pub meaning : Sizes → Plan → List ℕ → List ℕ → List ℕ → Res
-meaning z r h k m = pick (eqb r.code 0)
-    (taken r.empties (server_with r.state (hist_of r h k m) (cand_of r h k m)) (sends z r (hist_of r h k m)))
-    (refused r.code)
+unfoldable pub meaning : Sizes → Result Plan Refusal → List ℕ → List ℕ → List ℕ → Res
+meaning z (Ok r) h k m = taken r.empties (server_with r.state (hist_of r h k m) (cand_of r h k m)) (sends z r (hist_of r h k m))
+meaning z (Err c) h k m = refused (number c)
 
 -- ---- makers
 
@@ -120,13 +119,10 @@ abbrev pub solo_cast : ℕ → ℕ → ℕ → ℕ → Cast
 solo_cast f kind e x = all_cast (set nowhere f true) kind e x
 
 abbrev pub plan_of : Bool → State → ℕ → ℕ → Txn → Cast → Cast → Plan
-plan_of b t hist cand x one two = record { code = 0; empties = b; state = t; hist = hist; cand = cand; txn = x; one = one; two = two }
+plan_of b t hist cand x one two = record { empties = b; state = t; hist = hist; cand = cand; txn = x; one = one; two = two }
 
 abbrev pub quiet_of : State → Plan
 quiet_of t = plan_of false t 0 0 no_txn no_cast no_cast
-
-abbrev pub refusal_of : State → ℕ → Plan
-refusal_of t k = record { code = k; empties = false; state = t; hist = 0; cand = 0; txn = no_txn; one = no_cast; two = no_cast }
 
 -- ---- what a plan asks, and what it promises
 
@@ -163,6 +159,7 @@ pub record Fit (z : Sizes) (s : State) (r : Plan) : Type 0 where
   pub one : fine r.one.kind r.one.x.0 ≡ true
   pub two : fine r.two.kind r.two.x.0 ≡ true
 
-pub record Plans (z : Sizes) (s : State) (r : Plan) (h k m : List ℕ) (x : Res) : Type 0 where
+-- a plan, or a refusal, that means what the rules answer
+pub record Plans (z : Sizes) (s : State) (r : Result Plan Refusal) (h k m : List ℕ) (x : Res) : Type 0 where
   pub means : meaning z r h k m ≡ x
-  pub fit : r.code ≡ 0 → Fit z s r
+  pub fit : IfOk r (λ p. Fit z s p)

@@ -2,15 +2,17 @@
 // What a plan means as an answer of the rules is in specs/Plans.antt.
 #![tactic(auto)]
 
-ghost use Rattle.std.specs.Prelude.{◌≡◌, ◌≢◌, true, false, ◌<◌, ◌≤◌, max};
+ghost use Rattle.std.specs.Prelude.{◌≡◌, ◌≢◌, true, false, ◌<◌, ◌≤◌};
+ghost use Rattle.base.specs.Refusals.{number, number_of};
 ghost use Rattle.rules.specs.Table.{cell};
 ghost use Rattle.rules.specs.Tree.{Tree, run, gate};
-ghost use Rattle.plan.specs.Plans.{elsewhere, after, refusal_of, quiet_of, plan_of, solo_cast, no_cast, no_txn, ep, pl};
+ghost use Rattle.plan.specs.Plans.{elsewhere, after, quiet_of, plan_of, solo_cast, no_cast, no_txn};
 
-use base::{Epoch, Ident, Place, Sizes, Txn};
+use base::{Epoch, Ident, Place, Refusal, Txn};
 use rules::State;
 
 // A message to each other server of a set; kinds 3 and 4 carry the history after the step, 7 the plan's transaction.
+// Stays: kinds as numbers, since `solo` makes a cast of any kind (wrong program `kind_is_receiver`): an enum would ask more.
 #[derive(Clone, Copy)]
 pub struct Cast {
     pub to: [bool; 7],
@@ -19,12 +21,12 @@ pub struct Cast {
     pub x: Place,
 }
 
-// What a step would do: the refusal or 0; whether the channels are emptied; the record after it; where the history and
+// What a step that is not refused would do: whether the channels are emptied; the record after it; where the history and
 // the candidate after it lie (0 where it lay, 1 in the message, 2 in the candidate for the history and in the history for
 // the candidate, 3 with `txn` appended); what is sent, first `one` and then `two`.
+// Stays: the two places as numbers, since `planned` takes any (wrong program `hist_as_cand`): an enum would ask more.
 #[derive(Clone, Copy)]
 pub struct Plan {
-    pub code: u8,
     pub empties: bool,
     pub state: State,
     pub hist: u8,
@@ -34,7 +36,7 @@ pub struct Plan {
     pub two: Cast,
 }
 
-// A message as read from its words; its history stays there.
+// A well-formed message as read from its words; its history stays there.
 #[derive(Clone, Copy)]
 pub enum Message {
     Cepoch(Epoch),
@@ -46,110 +48,103 @@ pub enum Message {
     Propose(Epoch, Place, Txn),
     Ack(Epoch, Place),
     Commit(Epoch, Place),
-    Bad,
 }
 
-// The table of nine kinds against nine stages: 0 taken, 4 ROLE, 6 PHASE.
-const TABLE: [[u8; 9]; 9] = [
-    [4, 4, 4, 4, 4, 0, 0, 0, 0],
-    [4, 0, 6, 6, 6, 4, 4, 4, 4],
-    [4, 4, 4, 4, 4, 6, 0, 0, 0],
-    [4, 6, 0, 6, 6, 4, 4, 4, 4],
-    [4, 4, 4, 4, 4, 6, 6, 0, 0],
-    [4, 6, 6, 0, 6, 4, 4, 4, 4],
-    [4, 6, 6, 0, 0, 4, 4, 4, 4],
-    [4, 4, 4, 4, 4, 6, 6, 6, 0],
-    [4, 6, 6, 6, 0, 4, 4, 4, 4],
+// A cell of the table: none where the kind is taken, else the refusal.
+const TAKE: Option<Refusal> = None;
+
+const ROLE: Option<Refusal> = Some(Refusal::Role);
+
+const PHASE: Option<Refusal> = Some(Refusal::Phase);
+
+// The table of nine kinds against nine stages.
+const TABLE: [[Option<Refusal>; 9]; 9] = [
+    [ROLE, ROLE, ROLE, ROLE, ROLE, TAKE, TAKE, TAKE, TAKE],
+    [ROLE, TAKE, PHASE, PHASE, PHASE, ROLE, ROLE, ROLE, ROLE],
+    [ROLE, ROLE, ROLE, ROLE, ROLE, PHASE, TAKE, TAKE, TAKE],
+    [ROLE, PHASE, TAKE, PHASE, PHASE, ROLE, ROLE, ROLE, ROLE],
+    [ROLE, ROLE, ROLE, ROLE, ROLE, PHASE, PHASE, TAKE, TAKE],
+    [ROLE, PHASE, PHASE, TAKE, PHASE, ROLE, ROLE, ROLE, ROLE],
+    [ROLE, PHASE, PHASE, TAKE, TAKE, ROLE, ROLE, ROLE, ROLE],
+    [ROLE, ROLE, ROLE, ROLE, ROLE, PHASE, PHASE, PHASE, TAKE],
+    [ROLE, PHASE, PHASE, PHASE, TAKE, ROLE, ROLE, ROLE, ROLE],
 ];
 
 // The cell of a kind and a stage.
-pub fn by_table(kind: u8, stage: u8) -> u8
+// Stays: `by_table` and `by_match` say the same, for the paper names both forms (docs/DECISIONS.md).
+pub fn by_table(kind: u8, stage: u8) -> Option<Refusal>
     requires { (1 ≤ kind) × ((kind ≤ 9) × (stage ≤ 8)) }
-    ensures { result ≡ cell kind stage }
+    ensures { number_of result ≡ cell kind stage }
 {
-    let k = (kind - 1) as usize;
-    let s = stage as usize;
-    TABLE[k][s]
+    TABLE[usize::from(kind - 1)][usize::from(stage)]
 }
 
 // A follower's kind where it is not taken: another stage of the same role, or the other role.
-fn at_follower(stage: u8) -> u8
-    ensures { result ≡ elsewhere 1 4 stage }
+fn at_follower(stage: u8) -> Refusal
+    ensures { number result ≡ elsewhere 1 4 stage }
 {
     match stage {
-        1..=4 => 6,
-        _ => 4,
+        1..=4 => Refusal::Phase,
+        _ => Refusal::Role,
     }
 }
 
 // A leader's kind where it is not taken.
-fn at_leader(stage: u8) -> u8
-    ensures { result ≡ elsewhere 5 8 stage }
+fn at_leader(stage: u8) -> Refusal
+    ensures { number result ≡ elsewhere 5 8 stage }
 {
     match stage {
-        5..=8 => 6,
-        _ => 4,
+        5..=8 => Refusal::Phase,
+        _ => Refusal::Role,
     }
 }
 
-// The same by a match, for a kind that is not taken in the stage: another stage of the same role is 6, the other role is 4.
-pub fn by_match(kind: u8, stage: u8) -> u8
+// The same by a match, for a kind that is not taken in the stage: PHASE in another stage of the same role, ROLE in the other.
+pub fn by_match(kind: u8, stage: u8) -> Refusal
     requires { (1 ≤ kind) × ((kind ≤ 9) × ((stage ≤ 8) × (cell kind stage ≢ 0))) }
-    ensures { result ≡ cell kind stage }
+    ensures { number result ≡ cell kind stage }
 {
     match kind {
-        1 => at_leader(stage),
-        2 => at_follower(stage),
-        3 => at_leader(stage),
-        4 => at_follower(stage),
-        5 => at_leader(stage),
-        6 => at_follower(stage),
-        7 => at_follower(stage),
-        8 => at_leader(stage),
+        1 | 3 | 5 | 8 => at_leader(stage),
         _ => at_follower(stage),
     }
 }
 
-// The role's test, then the sender's, then the stage's: 0 past all three.
-pub fn gate_why(kind: u8, stage: u8, who: bool) -> u8
+// The role's test, then the sender's, then the stage's.
+pub fn gate(kind: u8, stage: u8, who: bool) -> Result<(), Refusal>
     requires { (1 ≤ kind) × ((kind ≤ 9) × (stage ≤ 8)) }
     ensures { (t : Tree) → run (gate kind stage who t) ≡ after result (run t) }
 {
-    let c = by_table(kind, stage);
-    if c == 0 {
-        if who {
-            return 0;
-        }
-        return 5;
+    let taken = by_table(kind, stage).is_none();
+    if !taken && by_match(kind, stage) == Refusal::Role {
+        return Err(Refusal::Role);
     }
-    let w = by_match(kind, stage);
-    if w == 4 {
-        return 4;
+    if !who {
+        return Err(Refusal::Sender);
     }
-    if who {
-        return 6;
+    if !taken {
+        return Err(Refusal::Phase);
     }
-    5
+    Ok(())
 }
 
 pub fn no_txn() -> Txn
     ensures { result ≡ no_txn }
 {
-    let zero = Ident(0);
-    Txn { id: zero, val: 0 }
+    Txn {
+        id: Ident(0),
+        val: 0,
+    }
 }
 
 pub fn nobody() -> Cast
     ensures { result ≡ no_cast }
 {
-    let to = [false; 7];
-    let e = Epoch(0);
-    let x = Place(0);
     Cast {
-        to: to,
+        to: [false; 7],
         kind: 1,
-        e: e,
-        x: x,
+        e: Epoch(0),
+        x: Place(0),
     }
 }
 
@@ -158,64 +153,27 @@ pub fn solo(f: u8, kind: u8, e: Epoch, x: Place) -> Cast
     ensures { result ≡ solo_cast f kind e.0 x.0 }
 {
     let mut to = [false; 7];
-    to[f as usize] = true;
-    Cast {
-        to: to,
-        kind: kind,
-        e: e,
-        x: x,
-    }
-}
-
-pub fn refusal(s: State, code: u8) -> Plan
-    ensures { result ≡ refusal_of s code }
-{
-    let txn = no_txn();
-    let one = nobody();
-    let two = nobody();
-    Plan {
-        code: code,
-        empties: false,
-        state: s,
-        hist: 0,
-        cand: 0,
-        txn: txn,
-        one: one,
-        two: two,
-    }
+    to[usize::from(f)] = true;
+    Cast { to, kind, e, x }
 }
 
 // Only the record changes, and nothing is sent.
 pub fn quiet(t: State) -> Plan
     ensures { result ≡ quiet_of t }
 {
-    refusal(t, 0)
+    planned(t, 0, 0, no_txn(), nobody())
 }
 
 pub fn planned(t: State, hist: u8, cand: u8, txn: Txn, one: Cast) -> Plan
     ensures { result ≡ plan_of false t hist cand txn one no_cast }
 {
-    let two = nobody();
     Plan {
-        code: 0,
         empties: false,
         state: t,
-        hist: hist,
-        cand: cand,
-        txn: txn,
-        one: one,
-        two: two,
+        hist,
+        cand,
+        txn,
+        one,
+        two: nobody(),
     }
-}
-
-pub fn larger_place(a: Place, b: Place) -> Place
-    ensures { result ≡ pl (max a.0 b.0) }
-{
-    if a.0 < b.0 { b } else { a }
-}
-
-pub fn larger_epoch(e: Epoch, f: Epoch) -> Epoch
-    ensures { result ≡ ep (max e.0 f.0) }
-{
-    if e.0 < f.0 { f } else { e }
 }

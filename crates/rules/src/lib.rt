@@ -4,6 +4,8 @@
 use base::{Epoch, Place};
 
 // The histories lie in lent words; `len` and `cand_len` say how many transactions they hold.
+// Stays: `stage` a number, since `server::step` answers any record whatever (STATE), so an enum would ask more of its callers.
+// Stays: `oracle` 0 or x + 1, as the C record and the paper's "all else zero" have it (docs/DECISIONS.md).
 #[derive(Clone, Copy)]
 pub struct State {
     pub me: u8,

@@ -8,7 +8,12 @@ use native.Mathlib.Omega.{arith}
 use lib.Dec.{eqb, leb}
 use lib.ListN.{length, drop, length-drop, length-append, get_or}
 use borrow.Author.Tests.{eq-eqb, ne_eqb, eqb-true, leb-true, le-leb, lt-leb, lt-ltb, le-ltb}
+use Rattle.std.specs.Prelude.{Option, Some, None, Result, Ok, Err, IfOk}
 use Rattle.base.specs.Choice.{pick, both}
+use Rattle.base.specs.Refusals.{number}
+use Rattle.base.specs.declared.Refusal.{Refusal}
+use Rattle.base.specs.declared.Refusal.TheVariants.{Event as EventR, Message as MessageR}
+use Rattle.base.proofs.Refusals.{number-some, number-one}
 use Rattle.base.specs.Transaction.{Hist}
 use Rattle.base.specs.declared.Epoch.{Epoch}
 use Rattle.base.specs.declared.Place.{Place}
@@ -27,16 +32,16 @@ use Rattle.rules.proofs.WellFormed.{whole, sized}
 use Rattle.rules.proofs.Words.{length-txns, words-good, hist-good, state-back, txns-flat}
 use Rattle.plan.specs.declared.Plan.{Plan}
 use Rattle.plan.specs.declared.Message.{Message}
-use Rattle.plan.specs.declared.Message.TheVariants.{Cepoch, Newepoch, Acke, Newleader, Ackld, Commitld, Propose, Ack, Commit, Bad}
-use Rattle.plan.specs.Plans.{hist_from, cand_from, hist_of, cand_of, sends, meaning, meant, held, refusal_of, Sized, Fit, Plans}
+use Rattle.plan.specs.declared.Message.TheVariants.{Cepoch, Newepoch, Acke, Newleader, Ackld, Commitld, Propose, Ack, Commit}
+use Rattle.plan.specs.Plans.{hist_from, cand_from, hist_of, cand_of, sends, meaning, meant, held, Sized, Fit, Plans}
 use Rattle.plan.proofs.Laws.{turned-away}
-use Rattle.message.specs.Reads.{well_read, Reads}
+use Rattle.message.specs.Reads.{well_read, meant_by, Reads}
 use Rattle.hands.specs.Hands.{Ready, Performed}
 use Rattle.hands.proofs.Ready.{ready}
 use Rattle.server.specs.declared.Event.{Event}
 use Rattle.server.specs.declared.Event.TheVariants.{Oracle, Restart, Deliver, Submit, Unknown}
 use Rattle.server.specs.declared.Answer.{Answer}
-use Rattle.server.specs.Whole.{answer_of, lent_len, load_at, can, Can, six, Known, Out, written, step_of, Does, Loads, Decides, Steps}
+use Rattle.server.specs.Whole.{answer_of, lent_len, load_at, can, Can, six, Known, Out, written, step_of, Reply, reply, Does, Loads, Decides, Steps}
 
 -- ---- what is known of well-formed records and words
 
@@ -75,7 +80,7 @@ sized_of z s h k f a b c d = record { most = f.most; me = f.me; room = f.room; s
 
 -- ---- the dispatch on a message
 
-module _ (z : Sizes) (s : State) (r : Plan) (f : ℕ) (h k m : List ℕ) (x : Message) where
+module _ (z : Sizes) (s : State) (r : Result Plan Refusal) (f : ℕ) (h k m : List ℕ) (x : Message) where
   abbrev Says : Msg → Type 0
   Says y = Plans z s r h k m (run (receive z s.me f y (server_of s h k)))
 
@@ -115,10 +120,6 @@ module _ (z : Sizes) (s : State) (r : Plan) (f : ℕ) (h k m : List ℕ) (x : Me
   unfolding meant
   on-commit e n q p = rw q p
 
-  pub on-bad : x ≡ Bad → r ≡ refusal_of s 3 → Says (meant x m)
-  unfolding meant receive run
-  on-bad q e = turned-away z s r h k m _ s 3 e (λ y. omega arith) (rw q)
-
 -- ---- a delivery
 
 heard : (z : Sizes) (i f : ℕ) (x : Msg) (s : Server) → f < z.n → f ≢ i → run (receive z i f (well_read z x) s) ≡ run (step z i (message f x) s)
@@ -129,19 +130,28 @@ heard z i f x s l n = rw (lt-ltb f z.n l, ne_eqb f i n) (go (formed z x))
     go true = refl
     go false = refl
 
-module _ (z : Sizes) (s : State) (r : Plan) (f : ℕ) (h k m : List ℕ) where
-  pub delivery-unknown : z.n ≤ f → r ≡ refusal_of s 2 → Plans z s r h k (drop 4 m) (answer_of z s (Deliver f) h k m)
+module _ (z : Sizes) (s : State) (r : Result Plan Refusal) (f : ℕ) (h k m : List ℕ) where
+  pub delivery-unknown : z.n ≤ f → r ≡ Err EventR → Plans z s r h k (drop 4 m) (answer_of z s (Deliver f) h k m)
   unfolding answer_of step run
-  delivery-unknown l e = turned-away z s r h k (drop 4 m) _ s 2 e (λ y. omega arith) (rw (le-ltb f z.n l))
+  delivery-unknown l e = turned-away z s r h k (drop 4 m) _ EventR e (rw (le-ltb f z.n l))
 
-  pub delivery-self : f < z.n → f ≡ s.me → r ≡ refusal_of s 2 → Plans z s r h k (drop 4 m) (answer_of z s (Deliver f) h k m)
+  pub delivery-self : f < z.n → f ≡ s.me → r ≡ Err EventR → Plans z s r h k (drop 4 m) (answer_of z s (Deliver f) h k m)
   unfolding answer_of step run
-  delivery-self l q e = turned-away z s r h k (drop 4 m) _ s 2 e (λ y. omega arith) (rw (lt-ltb f z.n l, eq-eqb f s.me q))
+  delivery-self l q e = turned-away z s r h k (drop 4 m) _ EventR e (rw (lt-ltb f z.n l, eq-eqb f s.me q))
 
-  pub delivery-heard : (x : Message) → f < z.n → (f ≡ s.me → ⊥) → Reads z m x → Plans z s r h k (drop 4 m) (run (receive z s.me f (meant x (drop 4 m)) (server_of s h k)))
+  -- a message that is read as x
+  read-as : (x : Msg) → f < z.n → (f ≡ s.me → ⊥) → x ≡ well_read z (read_msg z.room.0 m) → Plans z s r h k (drop 4 m) (run (receive z s.me f x (server_of s h k)))
       → Plans z s r h k (drop 4 m) (answer_of z s (Deliver f) h k m)
   unfolding answer_of
-  delivery-heard x l n q p = rw (← heard z s.me f (read_msg z.room.0 m) (server_of s h k) l n, ← q.means) p
+  read-as x l n q p = rw (← heard z s.me f (read_msg z.room.0 m) (server_of s h k) l n, ← q) p
+
+  pub delivery-heard : (o : Option Message) (x : Message) → o ≡ Some x → f < z.n → (f ≡ s.me → ⊥) → Reads z m o → Plans z s r h k (drop 4 m) (run (receive z s.me f (meant x (drop 4 m)) (server_of s h k)))
+      → Plans z s r h k (drop 4 m) (answer_of z s (Deliver f) h k m)
+  delivery-heard o x e l n q p = read-as (meant x (drop 4 m)) l n (ap (λ (y : Option Message). meant_by y (drop 4 m)) (sym e) ∙ q.means) p
+
+  pub delivery-junk : (o : Option Message) → o ≡ None → f < z.n → (f ≡ s.me → ⊥) → Reads z m o → r ≡ Err MessageR → Plans z s r h k (drop 4 m) (answer_of z s (Deliver f) h k m)
+  unfolding receive run
+  delivery-junk o e l n q x = read-as junk l n (ap (λ (y : Option Message). meant_by y (drop 4 m)) (sym e) ∙ q.means) (turned-away z s r h k (drop 4 m) _ MessageR x refl)
 
 -- ---- what a plan reads of a message that is not there
 
@@ -159,23 +169,29 @@ cand-at : Res → Hist
 cand-at (refused c) = []
 cand-at (taken b s out) = s.vol.cand_hist
 
-module _ (z : Sizes) (s : State) (r : Plan) (h k : List ℕ) (x : Res) (p : (m : List ℕ) → Plans z s r h k m x) where
-  unread-hist : r.code ≡ 0 → r.hist ≡ 1 → r.state.len.0 ≡ 0
+module _ (z : Sizes) (s : State) (r : Plan) (h k : List ℕ) (x : Res) (p : (m : List ℕ) → Plans z s (Ok r) h k m x) where
+  unread-hist : r.hist ≡ 1 → r.state.len.0 ≡ 0
   unfolding meaning pick hist_from hist-at
-  unread-hist c q = same_len r.state.len.0
-      (let e : hist-at (meaning z r h k []) ≡ hist-at (meaning z r h k (1 ∷ [])) = ap hist-at ((p []).means ∙ sym (p (1 ∷ [])).means) in rw (c, q) at e)
+  unread-hist q = same_len r.state.len.0
+      (let e : hist-at (meaning z (Ok r) h k []) ≡ hist-at (meaning z (Ok r) h k (1 ∷ [])) = ap hist-at ((p []).means ∙ sym (p (1 ∷ [])).means) in rw q at e)
 
-  unread-cand : r.code ≡ 0 → r.cand ≡ 1 → r.state.cand_len.0 ≡ 0
+  unread-cand : r.cand ≡ 1 → r.state.cand_len.0 ≡ 0
   unfolding meaning pick cand_from cand-at
-  unread-cand c q = same_len r.state.cand_len.0
-      (let e : cand-at (meaning z r h k []) ≡ cand-at (meaning z r h k (1 ∷ [])) = ap cand-at ((p []).means ∙ sym (p (1 ∷ [])).means) in rw (c, q) at e)
+  unread-cand q = same_len r.state.cand_len.0
+      (let e : cand-at (meaning z (Ok r) h k []) ≡ cand-at (meaning z (Ok r) h k (1 ∷ [])) = ap cand-at ((p []).means ∙ sym (p (1 ∷ [])).means) in rw q at e)
 
-  pub unread : (m : List ℕ) → r.code ≡ 0 → Loads r m
-  unread m c = record { hist = λ q. omega (arith, unread-hist c q); cand = λ q. omega (arith, unread-cand c q) }
+pub unread : (z : Sizes) (s : State) (r : Result Plan Refusal) (h k : List ℕ) (x : Res) → ((m : List ℕ) → Plans z s r h k m x) → (m : List ℕ) → IfOk r (λ q. Loads q m)
+unread z s (Ok r) h k x p m = record { hist = λ q. omega (arith, unread-hist z s r h k x p q); cand = λ q. omega (arith, unread-cand z s r h k x p q) }
+unread z s (Err c) h k x p m = tt
+
+-- what a well-formed plan reads of the words of a slot is there
+slot-loads : (z : Sizes) (s : State) (r : Result Plan Refusal) (h k l m : List ℕ) (x : Res) → Plans z s r h k l x → length m ≡ msg_size z.room.0 → IfOk r (λ q. Loads q (drop 4 m))
+slot-loads z s (Ok r) h k l m x p e = record { hist = λ _. omega (arith, length-drop 4 m, p.fit.len); cand = λ _. omega (arith, length-drop 4 m, p.fit.cand) }
+slot-loads z s (Err c) h k l m x p e = tt
 
 -- ---- the dispatch on an event
 
-module _ (z : Sizes) (s : State) (r : Plan) (h k m : List ℕ) (ev : Event) where
+module _ (z : Sizes) (s : State) (r : Result Plan Refusal) (h k m : List ℕ) (ev : Event) where
   pub on-oracle : (x : ℕ) → ev ≡ Oracle x → ((y : List ℕ) → Plans z s r h k y (run (on_oracle z s.me x (server_of s h k)))) → Decides z s ev r h k m
   unfolding answer_of step load_at
   on-oracle x q p = rw q (record { plans = p m; loads = unread z s r h k _ p m })
@@ -188,20 +204,16 @@ module _ (z : Sizes) (s : State) (r : Plan) (h k m : List ℕ) (ev : Event) wher
   unfolding answer_of step load_at
   on-submit v q p = rw q (record { plans = p m; loads = unread z s r h k _ p m })
 
-  pub on-unknown : ev ≡ Unknown → r ≡ refusal_of s 2 → Decides z s ev r h k m
+  pub on-unknown : ev ≡ Unknown → r ≡ Err EventR → Decides z s ev r h k m
   unfolding answer_of load_at
-  on-unknown q e = rw q (record { plans = turned-away z s r h k m _ s 2 e (λ y. omega arith) refl; loads = λ c. absurd (omega (arith, c, ap (λ (y : Plan). y.code) e)) })
+  on-unknown q e = rw q (record { plans = turned-away z s r h k m _ EventR e refl; loads = rw e tt })
 
   pub on-deliver : (f : ℕ) → ev ≡ Deliver f → Can z s ev h k m → Plans z s r h k (drop 4 m) (answer_of z s (Deliver f) h k m) → Decides z s ev r h k m
   unfolding load_at lent_len
   on-deliver f q c p =
       let w : lent_len z (Deliver f) (length m) ≡ true = rw q at c.words in
       let l : length m ≡ msg_size z.room.0 = eqb-true _ _ w in
-      rw q (record {
-        plans = p;
-        loads = λ y. let t = p.fit y in
-            record { hist = λ _. omega (arith, length-drop 4 m, t.len); cand = λ _. omega (arith, length-drop 4 m, t.cand) };
-      })
+      rw q (record { plans = p; loads = slot-loads z s r h k (drop 4 m) m _ p l })
 
 -- ---- a plan carried out
 
@@ -238,7 +250,7 @@ serve-back : (z : Sizes) (t : State) (hs ks : Hist) → length hs ≡ t.len.0 �
 unfolding hist_words
 serve-back z t hs ks a b = rw (← a, ← b, txns-flat hs _, txns-flat ks _)
 
-module _ (z : Sizes) (s : State) (ev : Event) (r : Plan) (h k m o : List ℕ) (known : Known z s ev h k m o) (dec : Decides z s ev r h k m) (c : r.code ≡ 0) where
+module _ (z : Sizes) (s : State) (ev : Event) (r : Plan) (h k m o : List ℕ) (known : Known z s ev h k m o) (dec : Decides z s ev (Ok r) h k m) where
   abbrev load : List ℕ
   load = drop (load_at ev) m
 
@@ -250,8 +262,8 @@ module _ (z : Sizes) (s : State) (ev : Event) (r : Plan) (h k m o : List ℕ) (k
 
   -- what the rules answered
   answered : answer_of z s ev h k m ≡ taken r.empties (server_with r.state hs ks) (sends z r hs)
-  unfolding meaning pick
-  answered = sym dec.plans.means ∙ rw (eq-eqb r.code 0 c)
+  unfolding meaning
+  answered = sym dec.plans.means
 
   fact : Facts z s h k
   fact = facts z s h k known.can.sizes known.can.state
@@ -260,7 +272,7 @@ module _ (z : Sizes) (s : State) (ev : Event) (r : Plan) (h k m o : List ℕ) (k
   stays = step_kept z s.me (input_of z ev m) (server_of s h k) known.can.sizes fact.formed r.empties _ _ (answer-is z s ev h k m r.empties _ _ answered)
 
   fit : Fit z s r
-  fit = dec.plans.fit c
+  fit = dec.plans.fit
 
   hist-len : length hs ≡ r.state.len.0
   hist-len = length-hist-from r.hist r.state.len.0 r.txn h k load fit.hist (λ e. omega (arith, fit.add e))
@@ -274,10 +286,10 @@ module _ (z : Sizes) (s : State) (ev : Event) (r : Plan) (h k m o : List ℕ) (k
   may a b d e =
       let g = both_true (good_words z.room.0 s.len.0 h) _ known.can.state in
       let g' = both_true (good_words z.room.0 s.cand_len.0 k) (well_formed z s.me (server_of s h k)) g.1 in
-      ready z s r h k load o (sized_of z s h k fact a b d e) fit fact.some g.0 g'.0 (dec.loads c).hist (dec.loads c).cand (leb-true _ _ known.box) stays.2
+      ready z s r h k load o (sized_of z s h k fact a b d e) fit fact.some g.0 g'.0 dec.loads.hist dec.loads.cand (leb-true _ _ known.box) stays.2
 
   -- and what they leave is the whole answer, and well formed
-  pub carried : (a : Answer) (n : ℕ) (h' k' o' : List ℕ) → length r.state.joined ≡ 7 → length r.state.acked ≡ 7 → length r.state.synced ≡ 7 → length r.state.counts ≡ 7
+  pub carried : (a : Reply) (n : ℕ) (h' k' o' : List ℕ) → length r.state.joined ≡ 7 → length r.state.acked ≡ 7 → length r.state.synced ≡ 7 → length r.state.counts ≡ 7
       → Performed z r h k (drop (load_at ev) m) o n h' k' o' → a ≡ record { code = 0; sent = n; empties = r.empties; state = r.state } → Steps z s ev h k m o a h' k' o'
   unfolding written good_state
   carried a n h' k' o' j1 j2 j3 j4 p e =
@@ -295,13 +307,14 @@ module _ (z : Sizes) (s : State) (ev : Event) (r : Plan) (h k m o : List ℕ) (k
 -- ---- a refusal, and STATE
 
 -- a refused plan leaves every word as it was
-pub stood : (z : Sizes) (s : State) (ev : Event) (r : Plan) (h k m o : List ℕ) (a : Answer) → Known z s ev h k m o → Decides z s ev r h k m → (r.code ≡ 0 → ⊥) → a ≡ record { code = r.code; sent = 0; empties = false; state = s } → Steps z s ev h k m o a h k o
-unfolding written meaning pick
-stood z s ev r h k m o a known dec n e =
-    let q : answer_of z s ev h k m ≡ refused r.code = sym dec.plans.means ∙ rw (ne_eqb r.code 0 n) in
-    rw e (record { does = rw q (record { code = refl; sent = refl; empties = refl; state = refl; hist = refl; cand = refl; box = refl }); kept = known.can.state; took = λ y. absurd (n y) })
+pub stood : (z : Sizes) (s : State) (ev : Event) (r : Result Plan Refusal) (h k m o : List ℕ) (c : Refusal) (a : Result Answer Refusal) → Known z s ev h k m o → Decides z s ev r h k m → r ≡ Err c → a ≡ Err c → Steps z s ev h k m o (reply s a) h k o
+unfolding written meaning
+stood z s ev r h k m o c a known dec q e =
+    let x : answer_of z s ev h k m ≡ refused (number c) = sym dec.plans.means ∙ rw q refl in
+    let some = number-some c in
+    rw e (record { does = rw x (record { code = refl; sent = refl; empties = refl; state = refl; hist = refl; cand = refl; box = refl }); kept = known.can.state; took = λ y. absurd (omega (arith, some, y)) })
 
-abbrev pub No : State → Answer
+abbrev pub No : State → Reply
 No s = record { code = 1; sent = 0; empties = false; state = s }
 
 not-both : (p q l x : Bool) → both p q ≡ false → both (both p (both q l)) x ≡ false
@@ -310,7 +323,7 @@ not-both true true l x e = clash refl e
 not-both true false l x e = refl
 not-both false q l x e = refl
 
-module _ (z : Sizes) (s : State) (ev : Event) (h k m o : List ℕ) (a : Answer) where
+module _ (z : Sizes) (s : State) (ev : Event) (h k m o : List ℕ) (a : Reply) where
   not-can : a ≡ No s → both (both (good_sizes z) (both (good_state z s h k) (lent_len z ev (length m)))) (six z o) ≡ false → Does (step_of z s ev h k m o) a h k o
   unfolding step_of can pick
   not-can x t = rw (x, t) (record { code = refl; sent = refl; empties = refl; state = refl; hist = refl; cand = refl; box = refl })
@@ -340,13 +353,36 @@ module _ (z : Sizes) (s : State) (ev : Event) (h k m o : List ℕ) (a : Answer) 
 
 -- ---- two answers that meet the statement are equal
 
-pub one_answer : (x : Out) (a a' : Answer) (h k o h' k' o' : List ℕ) → Does x a h k o → Does x a' h' k' o' → (a ≡ a') × ((h ≡ h') × ((k ≡ k') × (o ≡ o')))
-one_answer x a a' h k o h' k' o' p q = (
-  (λ i. record { code = (p.code ∙ sym q.code) i; sent = (p.sent ∙ sym q.sent) i; empties = (p.empties ∙ sym q.empties) i; state = (p.state ∙ sym q.state) i }),
+reply-one : (s : State) (a b : Result Answer Refusal) → (reply s a).code ≡ (reply s b).code → (reply s a).sent ≡ (reply s b).sent → (reply s a).empties ≡ (reply s b).empties → (reply s a).state ≡ (reply s b).state → a ≡ b
+reply-one s (Ok a) (Ok b) c n e t = λ i. Ok (record { sent = n i; empties = e i; state = t i })
+reply-one s (Ok a) (Err b) c n e t = let x = number-some b in absurd (omega (arith, x, c))
+reply-one s (Err a) (Ok b) c n e t = let x = number-some a in absurd (omega (arith, x, c))
+reply-one s (Err a) (Err b) c n e t = ap Err (number-one a b c)
+
+pub one_answer : (x : Out) (s : State) (a a' : Result Answer Refusal) (h k o h' k' o' : List ℕ) → Does x (reply s a) h k o → Does x (reply s a') h' k' o' → (a ≡ a') × ((h ≡ h') × ((k ≡ k') × (o ≡ o')))
+one_answer x s a a' h k o h' k' o' p q = (
+  reply-one s a a' (p.code ∙ sym q.code) (p.sent ∙ sym q.sent) (p.empties ∙ sym q.empties) (p.state ∙ sym q.state),
   (p.hist ∙ sym q.hist, (p.cand ∙ sym q.cand, p.box ∙ sym q.box)),
 )
 
 -- ---- smaller ones
+
+-- an event that delivers no message reads no words
+pub lent-other : (z : Sizes) (ev : Event) (l : ℕ) → ((x : ℕ) → ev ≡ Deliver x → ⊥) → true ≡ lent_len z ev l
+unfolding lent_len
+lent-other z (Oracle x) l n = refl
+lent-other z Restart l n = refl
+lent-other z (Deliver f) l n = absurd (n f refl)
+lent-other z (Submit v) l n = refl
+lent-other z Unknown l n = refl
+
+pub load-other : (ev : Event) → ((x : ℕ) → ev ≡ Deliver x → ⊥) → 0 ≡ load_at ev
+unfolding load_at
+load-other (Oracle x) n = refl
+load-other Restart n = refl
+load-other (Deliver f) n = absurd (n f refl)
+load-other (Submit v) n = refl
+load-other Unknown n = refl
 
 pub held-acke : (x : Message) (e a : Epoch) (n : Place) (H : ℕ) → x ≡ Acke e a n → held x ≤ H → n.0 ≤ H
 unfolding held

@@ -5,10 +5,15 @@ use mathlib.Core.Logic.{◌≢◌, ⊎_elim}
 use mathlib.Core.Bool.{Bool, true, false, not}
 use mathlib.Core.List.{List, [], ◌∷◌, ◌++◌}
 use native.Mathlib.Omega.{arith}
+use mir.Val.{bool_byte}
 use lib.Dec.{eqb, ltb}
 use lib.ListN.{length, drop, replicate}
 use borrow.Author.Tests.{eq-eqb, ne_eqb, lt-ltb, le-ltb}
+use Rattle.std.specs.Prelude.{Result, Ok, Err}
 use Rattle.base.specs.Choice.{pick, both}
+use Rattle.base.specs.Refusals.{number}
+use Rattle.base.specs.declared.Refusal.{Refusal}
+use Rattle.base.proofs.Refusals.{number-some, number-one}
 use Rattle.base.specs.Quorum.{Set}
 use Rattle.base.specs.declared.Sizes.{Sizes}
 use Rattle.base.proofs.Choice.{eq-or, le-or-lt, both_true, both-no, both_first}
@@ -23,7 +28,7 @@ use Rattle.plan.specs.Plans.{decode, cast_of, sends, meaning, hist_of}
 use Rattle.server.specs.declared.Event.{Event}
 use Rattle.server.specs.declared.Forecast.{Forecast}
 use Rattle.server.specs.Whole.{answer_of, lent_len, can, load_at, Can, Decides}
-use Rattle.server.specs.Foreseen.{sent_to, seen, preview_of, told, seen_of}
+use Rattle.server.specs.Foreseen.{sent_to, Preview, seen, foreseen, preview_of, told, seen_of}
 
 sent-append : (j : ℕ) (xs ys : List Send) → sent_to j (xs ++ ys) ≡ sent_to j xs + sent_to j ys
 unfolding sent_to
@@ -90,22 +95,25 @@ told_is n me p q a b j = sent-append j (to_all n me p a) (to_all n me q b) ∙ s
 
 -- ---- from the rules to the preview
 
-pub foreseen : (z : Sizes) (s : State) (ev : Event) (r : Plan) (h k m : List ℕ) → Decides z s ev r h k m → seen (answer_of z s ev h k m) ≡ seen_of z s.me r
-unfolding seen seen_of meaning sends cast_of pick
-foreseen z s ev r h k m d = ⊎_elim
-    (λ (c : r.code ≡ 0).
-    let me : r.state.me ≡ s.me = (d.plans.fit c).me in
-    let said : Cast → Msg = λ x. decode x.kind x.e.0 x.x.0 (hist_of r h k (drop (load_at ev) m)) r.txn in
-    let q : tab 7 (λ j. sent_to j (sends z r (hist_of r h k (drop (load_at ev) m)))) ≡ tab 7 (told z.n s.me (has r.one.to) (has r.two.to))
-    = ap (tab 7) (λ i j. (told_is z.n r.state.me (has r.one.to) (has r.two.to) (said r.one) (said r.two) j ∙ ap (λ (x : ℕ). told z.n x (has r.one.to) (has r.two.to) j) me) i) in
-    sym (ap seen d.plans.means) ∙ rw (eq-eqb r.code 0 c) (ap (λ (l : List ℕ). record { code = 0; empties = r.empties; to = l }) q))
-    (λ (c : r.code ≢ 0). sym (ap seen d.plans.means) ∙ rw (ne_eqb r.code 0 c))
-    (eq-or r.code 0)
+-- what the code foretells of a plan
+abbrev pub told_of : Sizes → ℕ → Result Plan Refusal → Result Forecast Refusal
+told_of z me (Ok r) = Ok (seen_of z me r)
+told_of z me (Err c) = Err c
 
-abbrev pub Not : Forecast
+pub foretold : (z : Sizes) (s : State) (ev : Event) (r : Result Plan Refusal) (h k m : List ℕ) (f : Result Forecast Refusal) → Decides z s ev r h k m → f ≡ told_of z s.me r → foreseen f ≡ seen (answer_of z s ev h k m)
+unfolding seen seen_of meaning sends cast_of
+foretold z s ev (Ok r) h k m f d x =
+    let me : r.state.me ≡ s.me = d.plans.fit.me in
+    let said : Cast → Msg = λ y. decode y.kind y.e.0 y.x.0 (hist_of r h k (drop (load_at ev) m)) r.txn in
+    let q : tab 7 (λ j. sent_to j (sends z r (hist_of r h k (drop (load_at ev) m)))) ≡ tab 7 (told z.n s.me (has r.one.to) (has r.two.to))
+    = ap (tab 7) (λ i j. (told_is z.n r.state.me (has r.one.to) (has r.two.to) (said r.one) (said r.two) j ∙ ap (λ (y : ℕ). told z.n y (has r.one.to) (has r.two.to) j) me) i) in
+    sym (sym (ap seen d.plans.means) ∙ ap (λ (l : List ℕ). record { code = 0; empties = r.empties; to = l }) q ∙ sym (ap foreseen x))
+foretold z s ev (Err c) h k m f d x = ap foreseen x ∙ ap seen d.plans.means
+
+abbrev pub Not : Preview
 Not = record { code = 1; empties = false; to = replicate 7 0 }
 
-module _ (z : Sizes) (s : State) (ev : Event) (h k m : List ℕ) (v : Forecast) where
+module _ (z : Sizes) (s : State) (ev : Event) (h k m : List ℕ) (v : Preview) where
   pub preview-state : (b : Bool) → b ≡ both (good_sizes z) (good_state z s h k) → b ≡ false → v ≡ Not → v ≡ preview_of z s ev h k m
   unfolding preview_of can pick both
   preview-state b e q x = x ∙ rw (both_first (good_sizes z) (good_state z s h k) (lent_len z ev (length m)) (sym e ∙ q))
@@ -116,11 +124,11 @@ module _ (z : Sizes) (s : State) (ev : Event) (h k m : List ℕ) (v : Forecast) 
       let w = both_true (good_sizes z) (good_state z s h k) (sym e ∙ q) in
       x ∙ rw (w.0, w.1, ← f, y)
 
-  pub preview-can : (r : Plan) (b d : Bool) → b ≡ both (good_sizes z) (good_state z s h k) → b ≡ true → d ≡ lent_len z ev (length m) → d ≡ true → Decides z s ev r h k m → v ≡ seen_of z s.me r → v ≡ preview_of z s ev h k m
+  pub preview-can : (r : Result Plan Refusal) (f : Result Forecast Refusal) (b d : Bool) → b ≡ both (good_sizes z) (good_state z s h k) → b ≡ true → d ≡ lent_len z ev (length m) → d ≡ true → Decides z s ev r h k m → f ≡ told_of z s.me r → foreseen f ≡ preview_of z s ev h k m
   unfolding preview_of can pick both
-  preview-can r b d e q f y p x =
+  preview-can r f b d e q g y p x =
       let w = both_true (good_sizes z) (good_state z s h k) (sym e ∙ q) in
-      x ∙ sym (foreseen z s ev r h k m p) ∙ rw (w.0, w.1, ← f, y)
+      foretold z s ev r h k m f p x ∙ rw (w.0, w.1, ← g, y)
 
   pub can-of : (b d : Bool) → b ≡ both (good_sizes z) (good_state z s h k) → b ≡ true → d ≡ lent_len z ev (length m) → d ≡ true → Can z s ev h k m
   can-of b d e q f y = let w = both_true (good_sizes z) (good_state z s h k) (sym e ∙ q) in record { sizes = w.0; state = w.1; words = sym f ∙ y }
@@ -144,10 +152,16 @@ pub seven : (f : ℕ → ℕ) (x₀ x₁ x₂ x₃ x₄ x₅ x₆ : ℕ) → x�
 unfolding tab
 seven f x₀ x₁ x₂ x₃ x₄ x₅ x₆ e₀ e₁ e₂ e₃ e₄ e₅ e₆ = rw (e₀, e₁, e₂, e₃, e₄, e₅, e₆) refl
 
-pub seen-yes : (z : Sizes) (me : ℕ) (r : Plan) (l : List ℕ) → r.code ≡ 0 → l ≡ tab 7 (told z.n me (has r.one.to) (has r.two.to)) → ◌≡◌ {A = Forecast} (record { code = 0; empties = r.empties; to = l }) (seen_of z me r)
-unfolding seen_of pick
-seen-yes z me r l c e = rw (eq-eqb r.code 0 c, e)
+-- a flag as a byte
+pub byte-pick : (b : Bool) → bool_byte b ≡ pick b 1 0
+unfolding pick
+byte-pick true = refl
+byte-pick false = refl
 
-pub seen_no : (z : Sizes) (me : ℕ) (r : Plan) → (r.code ≡ 0 → ⊥) → ◌≡◌ {A = Forecast} (record { code = r.code; empties = false; to = replicate 7 0 }) (seen_of z me r)
-unfolding seen_of pick
-seen_no z me r n = rw (ne_eqb r.code 0 n)
+-- ---- two previews that are read alike are equal
+
+pub one-preview : (f g : Result Forecast Refusal) → foreseen f ≡ foreseen g → f ≡ g
+one-preview (Ok f) (Ok g) e = λ i. Ok (record { empties = (e i).empties; to = (e i).to })
+one-preview (Ok f) (Err d) e = let p = number-some d in let q : 0 ≡ number d = ap (λ (x : Preview). x.code) e in absurd (omega (arith, p, q))
+one-preview (Err c) (Ok g) e = let p = number-some c in let q : number c ≡ 0 = ap (λ (x : Preview). x.code) e in absurd (omega (arith, p, q))
+one-preview (Err c) (Err d) e = ap Err (number-one c d (ap (λ (x : Preview). x.code) e))

@@ -1,7 +1,8 @@
 -- The whole answer of a step on lent words: the record, every word of the history, of the candidate and of the outbox.
-use Rattle.std.specs.Prelude.{ℕ, ◌*◌, ◌≤◌, ◌≡◌, Bool, true, false, List, eqb, leb, length, drop}
+use Rattle.std.specs.Prelude.{ℕ, ◌*◌, ◌≤◌, ◌≡◌, Bool, true, false, List, eqb, leb, length, drop, Result, Ok, Err, IfOk}
 use Rattle.base.specs.Choice.{pick, both}
-use Rattle.base.specs.Refusals.{STATE, EVENT}
+use Rattle.base.specs.Refusals.{number, STATE, EVENT}
+use Rattle.base.specs.declared.Refusal.{Refusal}
 use Rattle.base.specs.declared.Sizes.{Sizes}
 use Rattle.rules.specs.declared.State.{State}
 use Rattle.rules.specs.Message.{Send}
@@ -89,8 +90,19 @@ written z s h k o (taken b t out) = record {
 unfoldable pub step_of : Sizes → State → Event → List ℕ → List ℕ → List ℕ → List ℕ → Out
 step_of z s ev h k m o = pick (both (can z s ev h k m) (six z o)) (written z s h k o (answer_of z s ev h k m)) (stay STATE s h k o)
 
+-- an answer of the code in these terms: a refusal sends nothing and leaves the record s
+pub record Reply : Type 0 where
+  pub code : ℕ
+  pub sent : ℕ
+  pub empties : Bool
+  pub state : State
+
+abbrev pub reply : State → Result Answer Refusal → Reply
+reply s (Ok a) = record { code = 0; sent = a.sent; empties = a.empties; state = a.state }
+reply s (Err c) = record { code = number c; sent = 0; empties = false; state = s }
+
 -- the answer r, with the words h, k and o after it, is x
-pub record Does (x : Out) (r : Answer) (h k o : List ℕ) : Type 0 where
+pub record Does (x : Out) (r : Reply) (h k o : List ℕ) : Type 0 where
   pub code : r.code ≡ x.code
   pub sent : r.sent ≡ x.sent
   pub empties : r.empties ≡ x.empties
@@ -106,9 +118,9 @@ pub record Loads (r : Plan) (m : List ℕ) : Type 0 where
   pub hist : r.hist ≡ 1 → WORDS * r.state.len.0 ≤ length m
   pub cand : r.cand ≡ 1 → WORDS * r.state.cand_len.0 ≤ length m
 
-pub record Decides (z : Sizes) (s : State) (ev : Event) (r : Plan) (h k m : List ℕ) : Type 0 where
+pub record Decides (z : Sizes) (s : State) (ev : Event) (r : Result Plan Refusal) (h k m : List ℕ) : Type 0 where
   pub plans : Plans z s r h k (drop (load_at ev) m) (answer_of z s ev h k m)
-  pub loads : r.code ≡ 0 → Loads r (drop (load_at ev) m)
+  pub loads : IfOk r (λ p. Loads p (drop (load_at ev) m))
 
 -- the answer x takes the event, and leaves the server t
 pub record Took (x : Res) (t : Server) : Type 0 where
@@ -117,7 +129,7 @@ pub record Took (x : Res) (t : Server) : Type 0 where
   pub is : x ≡ taken empties t out
 
 -- all that it leaves, well formed; the record and words of a step taken stand for the server that the rules leave
-pub record Steps (z : Sizes) (s : State) (ev : Event) (h k m o : List ℕ) (a : Answer) (h' k' o' : List ℕ) : Type 0 where
+pub record Steps (z : Sizes) (s : State) (ev : Event) (h k m o : List ℕ) (a : Reply) (h' k' o' : List ℕ) : Type 0 where
   pub does : Does (written z s h k o (answer_of z s ev h k m)) a h' k' o'
   pub kept : good_state z a.state h' k' ≡ true
   pub took : a.code ≡ 0 → Took (answer_of z s ev h k m) (server_of a.state h' k')

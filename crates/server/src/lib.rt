@@ -6,11 +6,11 @@ ghost use Rattle.rules.specs.Tree.{run};
 ghost use Rattle.rules.specs.Step.{receive};
 ghost use Rattle.rules.specs.Words.{server_of};
 ghost use Rattle.plan.specs.Plans.{Plans, Sized, From, meant, held};
-ghost use Rattle.server.specs.Whole.{answer_of, load_at, lent_len, Known, Can, Decides, Steps, Does, step_of};
+ghost use Rattle.server.specs.Whole.{answer_of, load_at, lent_len, Known, Can, Decides, Steps, Does, step_of, reply};
 ghost use Rattle.rules.specs.Words.{has};
-ghost use Rattle.server.specs.Foreseen.{told, seen_of, preview_of};
+ghost use Rattle.server.specs.Foreseen.{told, seen_of, foreseen, preview_of};
 
-use base::{Place, Sizes};
+use base::{Refusal, Sizes};
 use plan::{Message, Plan};
 use rules::State;
 
@@ -24,20 +24,18 @@ pub enum Event {
     Unknown,
 }
 
-// The refusal or 0, how many messages stand in the outbox, whether the channels to and from the server are to be emptied,
-// and the record after the step.
+// A step taken: how many messages stand in the outbox, whether the channels to and from the server are to be emptied, and the
+// record after it.
 #[derive(Clone, Copy)]
 pub struct Answer {
-    pub code: u8,
     pub sent: usize,
     pub empties: bool,
     pub state: State,
 }
 
-// What an event would be answered: the refusal or 0, whether the channels would be emptied, and how many messages would go to whom.
-#[derive(Clone, Copy)]
+// What an event that would be taken would do: whether the channels would be emptied, and how many messages would go to whom.
+#[derive(Clone, Copy, Debug, PartialEq, Eq)]
 pub struct Forecast {
-    pub code: u8,
     pub empties: bool,
     pub to: [u8; 7],
 }
@@ -51,7 +49,7 @@ fn decide_message<'a>(
     load: &'a [u64],
     from: u8,
     m: Message,
-) -> Plan
+) -> Result<Plan, Refusal>
     requires { (Sized z s) × ((From z s from) × ((2 * z.room.0 ≤ length hist.now) × ((2 * z.room.0 ≤ length cand.now) × ((2 * z.room.0 ≤ length load.now) × (held m ≤ z.room.0))))) }
     ensures { Plans z s result hist.now cand.now load.now (run (receive z s.me from (meant m load.now) (server_of s hist.now cand.now))) }
 {
@@ -65,7 +63,6 @@ fn decide_message<'a>(
         Message::Propose(e, n, t) => follow::plan_propose(z, s, hist, from, e, n, t),
         Message::Ack(e, n) => deliver::plan_ack(z, s, from, e, n),
         Message::Commit(e, c) => follow::plan_commit(z, s, from, e, c),
-        Message::Bad => plan::refusal(s, 3),
     }
 }
 
@@ -77,19 +74,18 @@ fn decide_delivery<'a>(
     cand: &'a [u64],
     from: u8,
     msg: &'a [u64],
-) -> Plan
+) -> Result<Plan, Refusal>
     requires { Can z s (Event.Deliver from) hist.now cand.now msg.now }
     ensures { Plans z s result hist.now cand.now (drop 4 msg.now) (answer_of z s (Event.Deliver from) hist.now cand.now msg.now) }
 {
     if z.n <= from {
-        return plan::refusal(s, 2);
+        return Err(Refusal::Event);
     }
     if from == s.me {
-        return plan::refusal(s, 2);
+        return Err(Refusal::Event);
     }
-    let m = message::read(z, msg);
-    let load = &msg[4..];
-    decide_message(z, s, hist, cand, load, from, m)
+    let m = message::read(z, msg).ok_or(Refusal::Message)?;
+    decide_message(z, s, hist, cand, &msg[4..], from, m)
 }
 
 // What an event would do: nothing is written.
@@ -100,7 +96,7 @@ pub fn decide<'a>(
     cand: &'a [u64],
     ev: Event,
     msg: &'a [u64],
-) -> Plan
+) -> Result<Plan, Refusal>
     requires { Can z s ev hist.now cand.now msg.now }
     ensures { Decides z s ev result hist.now cand.now msg.now }
 {
@@ -109,7 +105,7 @@ pub fn decide<'a>(
         Event::Restart => follow::plan_restart(z, s),
         Event::Deliver(f) => decide_delivery(z, s, hist, cand, f, msg),
         Event::Submit(v) => deliver::plan_submit(z, s, hist, v),
-        Event::Unknown => plan::refusal(s, 2),
+        Event::Unknown => Err(Refusal::Event),
     }
 }
 
@@ -118,11 +114,8 @@ fn load_at(ev: Event) -> usize
     ensures { result ≡ load_at ev }
 {
     match ev {
-        Event::Oracle(_) => 0,
-        Event::Restart => 0,
         Event::Deliver(_) => 4,
-        Event::Submit(_) => 0,
-        Event::Unknown => 0,
+        _ => 0,
     }
 }
 
@@ -131,32 +124,23 @@ pub fn carry(
     z: Sizes,
     s: State,
     ev: Event,
-    r: Plan,
+    r: Result<Plan, Refusal>,
     hist: &mut [u64],
     cand: &mut [u64],
     msg: &[u64],
     out: &mut [u64],
-) -> Answer
+) -> Result<Answer, Refusal>
     requires { (Known z s ev hist.old cand.old msg.now out.old) × (Decides z s ev r hist.old cand.old msg.now) }
-    ensures { Steps z s ev hist.old cand.old msg.now out.old result hist.new cand.new out.new }
+    ensures { Steps z s ev hist.old cand.old msg.now out.old (reply s result) hist.new cand.new out.new }
 {
-    if r.code != 0 {
-        return Answer {
-            code: r.code,
-            sent: 0,
-            empties: false,
-            state: s,
-        };
-    }
+    let p = r?;
     let at = load_at(ev);
-    let n = hands::perform(z, r, s.cand_len, hist, cand, &msg[at..], out);
-    let t = r.state;
-    Answer {
-        code: 0,
-        sent: n,
-        empties: r.empties,
-        state: t,
-    }
+    let sent = hands::perform(z, p, s.cand_len, hist, cand, &msg[at..], out);
+    Ok(Answer {
+        sent,
+        empties: p.empties,
+        state: p.state,
+    })
 }
 
 // The step of a record that is known to be well formed; it leaves a well-formed one.
@@ -168,9 +152,9 @@ pub fn step_known<'a>(
     ev: Event,
     msg: &'a [u64],
     out: &mut [u64],
-) -> Answer
+) -> Result<Answer, Refusal>
     requires { Known z s ev hist.old cand.old msg.now out.old }
-    ensures { Steps z s ev hist.old cand.old msg.now out.old result hist.new cand.new out.new }
+    ensures { Steps z s ev hist.old cand.old msg.now out.old (reply s result) hist.new cand.new out.new }
 {
     let r = decide(z, s, hist, cand, ev, msg);
     carry(z, s, ev, r, hist, cand, msg, out)
@@ -181,11 +165,8 @@ fn is_lent(z: Sizes, ev: Event, len: usize) -> bool
     ensures { result ≡ lent_len z ev len }
 {
     match ev {
-        Event::Oracle(_) => true,
-        Event::Restart => true,
         Event::Deliver(_) => len == 4 + 2 * (z.room.0 as usize),
-        Event::Submit(_) => true,
-        Event::Unknown => true,
+        _ => true,
     }
 }
 
@@ -198,23 +179,17 @@ pub fn step<'a>(
     ev: Event,
     msg: &'a [u64],
     out: &mut [u64],
-) -> Answer
-    ensures { Does (step_of z s ev hist.old cand.old msg.now out.old) result hist.new cand.new out.new }
+) -> Result<Answer, Refusal>
+    ensures { Does (step_of z s ev hist.old cand.old msg.now out.old) (reply s result) hist.new cand.new out.new }
 {
-    let no = Answer {
-        code: 1,
-        sent: 0,
-        empties: false,
-        state: s,
-    };
     if !sound::sound(z, s, hist, cand) {
-        return no;
+        return Err(Refusal::State);
     }
     if !is_lent(z, ev, msg.len()) {
-        return no;
+        return Err(Refusal::State);
     }
     if out.len() < 6 * (5 + 2 * (z.room.0 as usize)) {
-        return no;
+        return Err(Refusal::State);
     }
     step_known(z, s, hist, cand, ev, msg, out)
 }
@@ -231,28 +206,12 @@ fn tell(one: [bool; 7], two: [bool; 7], n: u8, me: u8, j: u8) -> u8
         return 0;
     }
     let k = j as usize;
-    if one[k] {
-        if two[k] {
-            return 2;
-        }
-        return 1;
-    }
-    if two[k] {
-        return 1;
-    }
-    0
+    u8::from(one[k]) + u8::from(two[k])
 }
 
 fn seen(z: Sizes, me: u8, r: Plan) -> Forecast
     ensures { result ≡ seen_of z me r }
 {
-    if r.code != 0 {
-        return Forecast {
-            code: r.code,
-            empties: false,
-            to: [0; 7],
-        };
-    }
     let one = r.one.to;
     let two = r.two.to;
     let n = z.n;
@@ -264,7 +223,6 @@ fn seen(z: Sizes, me: u8, r: Plan) -> Forecast
     let f = tell(one, two, n, me, 5);
     let g = tell(one, two, n, me, 6);
     Forecast {
-        code: 0,
         empties: r.empties,
         to: [a, b, c, d, e, f, g],
     }
@@ -278,23 +236,15 @@ pub fn preview<'a>(
     cand: &'a [u64],
     ev: Event,
     msg: &'a [u64],
-) -> Forecast
-    ensures { result ≡ preview_of z s ev hist.now cand.now msg.now }
+) -> Result<Forecast, Refusal>
+    ensures { foreseen result ≡ preview_of z s ev hist.now cand.now msg.now }
 {
     if !sound::sound(z, s, hist, cand) {
-        return Forecast {
-            code: 1,
-            empties: false,
-            to: [0; 7],
-        };
+        return Err(Refusal::State);
     }
     if !is_lent(z, ev, msg.len()) {
-        return Forecast {
-            code: 1,
-            empties: false,
-            to: [0; 7],
-        };
+        return Err(Refusal::State);
     }
-    let r = decide(z, s, hist, cand, ev, msg);
-    seen(z, s.me, r)
+    let r = decide(z, s, hist, cand, ev, msg)?;
+    Ok(seen(z, s.me, r))
 }

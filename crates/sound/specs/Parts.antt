@@ -23,10 +23,6 @@ promised stage p = either (not (either (during 2 4 stage) (during 6 8 stage))) (
 unfoldable pub another : ℕ → ℕ → ℕ → Bool
 another n i orc = both (leb 1 orc) (both (leb orc n) (not (eqb orc (i + 1))))
 
--- x implies y
-unfoldable pub if_then : Bool → Bool → Bool
-if_then x y = either (not x) y
-
 -- a count is at most the length, and 0 where it does not live
 unfoldable pub count_fits : ℕ → ℕ → Bool → Bool
 count_fits c len lives = both (leb c len) (either lives (eqb c 0))

@@ -1,20 +1,72 @@
--- A turn of each loop.
+-- What the library answers of slices, in the words of the contracts; a turn of each loop.
 use Prim.Native.Nat.{ℕ, zero, suc, ◌+◌, ◌-◌, ◌*◌, ◌≤◌, ◌<◌}
-use mathlib.Core.Path.{◌≡◌, refl, sym, ap, ◌∙◌}
-use mathlib.Core.Logic.{◌≢◌}
-use mathlib.Core.Bool.{Bool, true, false}
-use mathlib.Core.List.{List, [], ◌∷◌, ◌++◌, append_assoc}
+use mathlib.Core.Path.{◌≡◌, refl, ap, subst, ◌∙◌}
+use mathlib.Core.Bool.{Bool, true, false, ◌&&◌}
+use mathlib.Core.List.{List, [], ◌∷◌, ◌++◌, append-nil}
 use native.Mathlib.Omega.{arith}
 use native.Mathlib.Numerals.{add-one}
 use lib.Dec.{eqb}
-use lib.ListN.{length, take, drop, get_or, set, drop_of_length-le}
-use lib.Seq.{drop-cons, drop-drop, get_or-drop, take-suc-set, take_all, take-suc}
-use borrow.Author.Tests.{eq-eqb, ne_eqb}
+use lib.ListN.{length, take, drop, get_or, replicate, drop_of_length-le, length-append, length-drop}
+use lib.Pointwise.{pointwise}
+use lib.Seq.{drop-drop, get_or-drop, take-append_seam, length-take-le}
+use borrow.Rule.Slice.PartMut.{mid_of, put_mid}
 use Rattle.base.specs.Choice.{both, pick}
-use Rattle.base.specs.Quorum.{weight, size}
+use Rattle.base.specs.Quorum.{Set, weight, size}
 use Rattle.base.specs.Transaction.{same_hist, same_txn, rising, follows}
 use Rattle.base.specs.declared.Txn.{Txn}
-use Rattle.rules.specs.Words.{txns, zeros, all_zero, has}
+use Rattle.rules.proofs.Words.{last-at}
+use Rattle.rules.specs.Words.{txns, zeros, all_zero}
+use Rattle.std.specs.List.{list_all}
+
+-- ---- slices compared, cleared and copied
+
+and-both : (a b : Bool) → (a && b) ≡ both a b
+unfolding both
+and-both true b = refl
+and-both false b = refl
+
+and_two : (a b c : Bool) → (a && (b && c)) ≡ both (both a b) c
+unfolding both
+and_two true b c = and-both b c
+and_two false b c = refl
+
+pub same_words : (d : ℕ) (a b : List ℕ) → 2 * d ≤ length a → 2 * d ≤ length b → pointwise eqb (take (2 * d) a) (take (2 * d) b) ≡ same_hist (txns d a) (txns d b)
+unfolding same_hist same_txn txns
+same_words zero a b h k = refl
+same_words (suc d) [] b h k = absurd (omega arith)
+same_words (suc d) (x ∷ []) b h k = absurd (omega arith)
+same_words (suc d) (x ∷ (u ∷ a)) [] h k = absurd (omega arith)
+same_words (suc d) (x ∷ (u ∷ a)) (y ∷ []) h k = absurd (omega arith)
+same_words (suc d) (x ∷ (u ∷ a)) (y ∷ (v ∷ b)) h k =
+    let e : 2 * suc d ≡ suc (suc (2 * d)) = omega arith in
+    rw (e, same_words d a b (omega arith) (omega arith)) (and_two (eqb x y) (eqb u v) (same_hist (txns d a) (txns d b)))
+
+pub zero_words : (w : List ℕ) → list_all (λ x. eqb x 0) w ≡ all_zero w
+unfolding all_zero
+zero_words [] = refl
+zero_words (x ∷ w) = rw (zero_words w) (and-both (eqb x 0) (all_zero w))
+
+pub zeros_replicate : (n : ℕ) → zeros n ≡ replicate n 0
+unfolding zeros
+zeros_replicate zero = refl
+zeros_replicate (suc n) = ap (λ (z : List ℕ). 0 ∷ z) (zeros_replicate n)
+
+-- what `fill` of zero leaves from word n on
+pub filled : (d r : List ℕ) (n : ℕ) → n ≤ length d → r ≡ replicate (length (mid_of n (length d - n) d)) 0 → put_mid n (length d - n) d r ≡ take n d ++ zeros (length d - n)
+filled d r n h e =
+    let k : length (take (length d - n) (drop n d)) ≡ length d - n = length-take-le (length d - n) (drop n d) (omega (arith, length-drop n d)) in
+    let o : drop (length d - n) (drop n d) ≡ [] = drop_of_length-le (drop n d) (omega (arith, length-drop n d)) in
+    rw (e, k, o, append-nil, zeros_replicate (length d - n))
+
+-- the first n words copied over d, and then cleared past them
+pub copied : (d s r w : List ℕ) (n : ℕ) → n ≤ length d → n ≤ length s → r ≡ take n s → w ≡ take n (r ++ drop n d) ++ zeros (length (r ++ drop n d) - n) → w ≡ take n s ++ zeros (length d - n)
+copied d s r w n h k e f =
+    let l : length r ≡ n = ap length e ∙ length-take-le n s k in
+    let t : take n (r ++ drop n d) ≡ r = subst (λ (i : ℕ). take i (r ++ drop n d) ≡ r) l (take-append_seam r (drop n d)) in
+    let m : length (r ++ drop n d) ≡ length d = length-append r (drop n d) ∙ omega (arith, l, length-drop n d) in
+    f ∙ rw (t, m, e)
+
+-- ---- a turn of a loop over transactions
 
 abbrev pub txn_of : ℕ → ℕ → Txn
 txn_of x y = record { id = record { 0 = x }; val = y }
@@ -34,103 +86,33 @@ txns-end n i w l = let e : n - i ≡ 0 = omega arith in rw e
 pub txns-start : (n : ℕ) (w : List ℕ) → txns (n - 0) (drop (2 * 0) w) ≡ txns n w
 txns-start n w = let e : n - 0 ≡ n = omega arith in rw e
 
--- the first d transactions of a and b, from i on
-unfoldable pub same_rest : List ℕ → List ℕ → ℕ → ℕ → Bool
-same_rest a b d i = same_hist (txns (d - i) (drop (2 * i) a)) (txns (d - i) (drop (2 * i) b))
-
-pub same_start : (a b : List ℕ) (d : ℕ) → same_rest a b d 0 ≡ same_hist (txns d a) (txns d b)
-unfolding same_rest
-same_start a b d = rw (txns-start d a, txns-start d b)
-
-pub same_end : (a b : List ℕ) (d i : ℕ) (x : Bool) → d ≤ i → same_rest a b d i ≡ x → true ≡ x
-unfolding same_rest same_hist
-same_end a b d i x l e = sym (rw (txns-end d i a l, txns-end d i b l)) ∙ e
-
-pub same_step : (a b : List ℕ) (d i : ℕ) → i < d → same_rest a b d i ≡ both (both (eqb (get_or a (2 * i) 0) (get_or b (2 * i) 0)) (eqb (get_or a (2 * i + 1) 0) (get_or b (2 * i + 1) 0))) (same_rest a b d (i + 1))
-unfolding same_rest same_hist same_txn
-same_step a b d i l = rw (txns-step d i a l, txns-step d i b l)
-
-pub same_id : (a b : List ℕ) (d i : ℕ) (x : Bool) → i < d → get_or a (2 * i) 0 ≢ get_or b (2 * i) 0 → same_rest a b d i ≡ x → false ≡ x
-unfolding both
-same_id a b d i x l n e = sym (same_step a b d i l ∙ rw (ne_eqb _ _ n)) ∙ e
-
-pub same-val : (a b : List ℕ) (d i : ℕ) (x : Bool) → i < d → get_or a (2 * i) 0 ≡ get_or b (2 * i) 0 → get_or a (2 * i + 1) 0 ≢ get_or b (2 * i + 1) 0 → same_rest a b d i ≡ x → false ≡ x
-unfolding both
-same-val a b d i x l q n e = sym (same_step a b d i l ∙ rw (eq-eqb _ _ q, ne_eqb _ _ n)) ∙ e
-
-pub same-on : (a b : List ℕ) (d i : ℕ) (x : Bool) → i < d → get_or a (2 * i) 0 ≡ get_or b (2 * i) 0 → get_or a (2 * i + 1) 0 ≡ get_or b (2 * i + 1) 0 → same_rest a b d i ≡ x → same_rest a b d (i + 1) ≡ x
-unfolding both
-same-on a b d i x l q r e = sym (same_step a b d i l ∙ rw (eq-eqb _ _ q, eq-eqb _ _ r)) ∙ e
-
 unfoldable pub rise_rest : ℕ → List ℕ → ℕ → ℕ → ℕ → Bool
 rise_rest a w n i last = rising a last (txns (n - i) (drop (2 * i) w))
 
-pub rise-start : (a : ℕ) (w : List ℕ) (n : ℕ) → rise_rest a w n 0 0 ≡ rising a 0 (txns n w)
+pub rise_start : (a : ℕ) (w : List ℕ) (n : ℕ) → rise_rest a w n 0 0 ≡ rising a 0 (txns n w)
 unfolding rise_rest
-rise-start a w n = rw (txns-start n w)
+rise_start a w n = rw (txns-start n w)
 
-pub rise-end : (a : ℕ) (w : List ℕ) (n i last : ℕ) (x : Bool) → n ≤ i → rise_rest a w n i last ≡ x → true ≡ x
+pub rise_end : (a : ℕ) (w : List ℕ) (n i last : ℕ) → n ≤ i → rise_rest a w n i last ≡ true
 unfolding rise_rest rising
-rise-end a w n i last x l e = sym (rw (txns-end n i w l)) ∙ e
+rise_end a w n i last l = rw (txns-end n i w l)
 
-pub rise-step : (a : ℕ) (w : List ℕ) (n i last : ℕ) → i < n → rise_rest a w n i last ≡ both (follows a last (get_or w (2 * i) 0)) (rise_rest a w n (i + 1) (get_or w (2 * i) 0))
+pub rise_step : (a : ℕ) (w : List ℕ) (n i last : ℕ) → i < n → rise_rest a w n i last ≡ both (follows a last (get_or w (2 * i) 0)) (rise_rest a w n (i + 1) (get_or w (2 * i) 0))
 unfolding rise_rest rising
-rise-step a w n i last l = rw (txns-step n i w l)
+rise_step a w n i last l = rw (txns-step n i w l)
 
-pub rise-on : (a : ℕ) (w : List ℕ) (n i last : ℕ) (t x : Bool) → i < n → t ≡ follows a last (get_or w (2 * i) 0) → t ≡ true → rise_rest a w n i last ≡ x → rise_rest a w n (i + 1) (get_or w (2 * i) 0) ≡ x
-unfolding both
-rise-on a w n i last t x l r y e = sym (rise-step a w n i last l ∙ rw (← r, y)) ∙ e
+pub ruleset turns = (rise_start, rise_end, rise_step)
 
-pub rise-stop : (a : ℕ) (w : List ℕ) (n i last : ℕ) (t x : Bool) → i < n → t ≡ follows a last (get_or w (2 * i) 0) → t ≡ false → rise_rest a w n i last ≡ x → false ≡ x
-unfolding both
-rise-stop a w n i last t x l r y e = sym (rise-step a w n i last l ∙ rw (← r, y)) ∙ e
+-- ---- members counted
 
-pub zero-step : (h : List ℕ) (i : ℕ) → i < length h → all_zero (drop i h) ≡ both (eqb (get_or h i 0) 0) (all_zero (drop (i + 1) h))
-unfolding all_zero
-zero-step h i l = rw (add-one, drop-cons h i 0 l)
+pub size_none : (q : Set) → size q 0 ≡ 0
+unfolding weight
+size_none q = refl
 
-pub zero-on : (h : List ℕ) (i : ℕ) (x : Bool) → i < length h → get_or h i 0 ≡ 0 → all_zero (drop i h) ≡ x → all_zero (drop (i + 1) h) ≡ x
-unfolding both
-zero-on h i x l z e = sym (zero-step h i l ∙ rw (eq-eqb _ _ z)) ∙ e
+pub size_more : (q : Set) (i : ℕ) → size q (i + 1) ≡ size q i + pick (q i) 1 0
+unfolding weight
+size_more q i = rw add-one
 
-pub zero-stop : (h : List ℕ) (i : ℕ) (x : Bool) → i < length h → get_or h i 0 ≢ 0 → all_zero (drop i h) ≡ x → false ≡ x
-unfolding both
-zero-stop h i x l z e = sym (zero-step h i l ∙ rw (ne_eqb _ _ z)) ∙ e
+pub ruleset counted = (size_none, size_more)
 
-pub zero-end : (h : List ℕ) (i : ℕ) (x : Bool) → length h ≤ i → all_zero (drop i h) ≡ x → true ≡ x
-unfolding all_zero
-zero-end h i x l e = sym (rw (drop_of_length-le h {i = i} l)) ∙ e
-
--- zeros stored from `from` on, up to i
-zeros-snoc : (n : ℕ) → zeros (n + 1) ≡ zeros n ++ (0 ∷ [])
-unfolding zeros
-zeros-snoc zero = refl
-zeros-snoc (suc n) = let e : suc n + 1 ≡ suc (n + 1) = omega arith in rw e (ap (λ (z : List ℕ). 0 ∷ z) (zeros-snoc n))
-
-pub clear-on : (d q : List ℕ) (from i : ℕ) → from ≤ i → i < length q → take i q ≡ take from d ++ zeros (i - from) → take (i + 1) (set q i 0) ≡ take from d ++ zeros (i + 1 - from)
-clear-on d q from i h l e =
-    let k : i + 1 - from ≡ i - from + 1 = omega arith in
-    rw (add-one i, take-suc-set q i 0 l, e, ← add-one i, k, zeros-snoc (i - from), append_assoc)
-
-pub copy-on : (q s : List ℕ) (i : ℕ) → i < length q → i < length s → take i q ≡ take i s → take (i + 1) (set q i (get_or s i 0)) ≡ take (i + 1) s
-copy-on q s i l m e = rw (add-one i, take-suc-set q i (get_or s i 0) l, take-suc s i 0 m, e)
-
--- members counted
-pub size_in : (q : List Bool) (i : ℕ) → has q i ≡ true → size (has q) i + 1 ≡ size (has q) (i + 1)
-unfolding weight pick
-size_in q i h = rw (add-one i, h)
-
-pub size-out : (q : List Bool) (i : ℕ) → has q i ≡ false → size (has q) i ≡ size (has q) (i + 1)
-unfolding weight pick
-size-out q i h = rw (add-one i, h) (omega arith)
-
-pub clear-end : (d q : List ℕ) (from i : ℕ) → length q ≤ i → i ≤ length d → length q ≡ length d → take i q ≡ take from d ++ zeros (i - from) → q ≡ take from d ++ zeros (length d - from)
-clear-end d q from i h k l e =
-    let j : i ≡ length d = omega arith in
-    sym (take_all i q h) ∙ e ∙ ap (λ (x : ℕ). take from d ++ zeros (x - from)) j
-
-pub taken-over : (d q s r : List ℕ) (n i : ℕ) → n ≤ i → i ≤ n → length q ≡ length d → take i q ≡ take i s → r ≡ take n q ++ zeros (length q - n) → r ≡ take n s ++ zeros (length d - n)
-taken-over d q s r n i h k l e f =
-    let j : i ≡ n = omega arith in
-    let g : take n q ≡ take n s = rw (← j) e in
-    f ∙ rw (g, l)
+pub ruleset last = (last-at)

@@ -1,18 +1,20 @@
-use Rattle.deliver.proofs.Laws.{ack-gate, ack-epoch, ack-gap, ack-done}
+use Rattle.rules.specs.Step.{receive}
+use Rattle.deliver.proofs.Laws.{shut, passed, ack-epoch, ack-gap, ack-done}
 use borrow.Author.Rules.{rules}
 use Rattle.deliver.proofs.plan_ack.Goals as goal
 
-pub returns-then-why-ne0 : goal.returns-then-why-ne0
-returns-then-why-ne0 c = λ h k m. search (ack-gate, rules)
+pub returns-in_err-gate : goal.returns-in_err-gate
+unfolding receive
+returns-in_err-gate c = λ h k m. shut _ _ _ h k m _ _ _ _ c.from.ensures _ c.from_residual.ensures.1 c.in_err-gate.ensures
 
-pub returns-then-e-s : goal.returns-then-e-s
-returns-then-e-s c = λ h k m. search (ack-epoch, rules)
+pub returns-then-ne : goal.returns-then-ne
+unfolding receive
+returns-then-ne c = λ h k m. passed _ _ _ h k m _ _ _ _ c.from.ensures _ _ c.gate.ensures c.in_ok-gate.was (search (ack-epoch, rules))
 
-pub returns-then-s-n : goal.returns-then-s-n
-returns-then-s-n c = λ h k m. search (ack-gap, rules)
-
-pub committed-requires : goal.committed-requires
-committed-requires c = (c.requires.0.most, rw c.raised-t.ensures c.requires.0.d)
+pub returns-then-lt : goal.returns-then-lt
+unfolding receive
+returns-then-lt c = λ h k m. passed _ _ _ h k m _ _ _ _ c.from.ensures _ _ c.gate.ensures c.in_ok-gate.was (search (ack-gap, rules))
 
 pub returns : goal.returns
-returns c = λ h k m. search (ack-done, rules, c.committed, c.raised-t, c.if-s-n, c.if-e-s, c.if-why-ne0, c.gate_why-why, c.gate_why-arg-1, c.requires)
+unfolding receive
+returns c = λ h k m. passed _ _ _ h k m _ _ _ _ c.from.ensures _ _ c.gate.ensures c.in_ok-gate.was (ack-done _ _ h k m _ _ _ _ _ (search rules) (search rules) c.raised-t.ensures c.committed.ensures c.requires.0 c.requires.1)

@@ -1,18 +1,24 @@
-use Rattle.deliver.proofs.Laws.{sync-gate, sync-epoch, sync-third, sync-gap, sync-done}
+use Rattle.rules.specs.Step.{receive}
+use Rattle.deliver.proofs.Laws.{shut, passed, sync-epoch, sync-third, sync-gap, sync-done}
 use borrow.Author.Rules.{rules}
 use Rattle.deliver.proofs.plan_ackld.Goals as goal
 
-pub returns-then-why-ne0 : goal.returns-then-why-ne0
-returns-then-why-ne0 c = λ h k m. search (sync-gate, rules)
+pub returns-in_err-gate : goal.returns-in_err-gate
+unfolding receive
+returns-in_err-gate c = λ h k m. shut _ _ _ h k m _ _ _ _ c.from.ensures _ c.from_residual.ensures.1 c.in_err-gate.ensures
 
-pub returns-then-e-s : goal.returns-then-e-s
-returns-then-e-s c = λ h k m. search (sync-epoch, rules)
+pub returns-then-ne : goal.returns-then-ne
+unfolding receive
+returns-then-ne c = λ h k m. passed _ _ _ h k m _ _ _ _ c.from.ensures _ _ c.gate.ensures c.in_ok-gate.was (search (sync-epoch, rules))
 
 pub returns-then-s-eq7 : goal.returns-then-s-eq7
-returns-then-s-eq7 c = λ h k m. sync-third _ _ _ h k m _ _ _ _ c.gate_why-why.ensures c.if-why-ne0.false (search rules) (search rules) (c.sync_third.ensures h k m)
+unfolding receive
+returns-then-s-eq7 c = λ h k m. passed _ _ _ h k m _ _ _ _ c.from.ensures _ _ c.gate.ensures c.in_ok-gate.was (sync-third _ _ h k m _ _ _ _ (search rules) (search rules) (c.sync_third.ensures h k m))
 
-pub returns-then-s-c : goal.returns-then-s-c
-returns-then-s-c c = λ h k m. search (sync-gap, rules, c.refusal-then-s-c, c.if-s-c, c.if-s-eq7, c.if-e-s, c.if-why-ne0, c.gate_why-why)
+pub returns-then-lt : goal.returns-then-lt
+unfolding receive
+returns-then-lt c = λ h k m. passed _ _ _ h k m _ _ _ _ c.from.ensures _ _ c.gate.ensures c.in_ok-gate.was (search (sync-gap, rules))
 
 pub returns : goal.returns
-returns c = λ h k m. search (sync-done, rules, c.sync_fourth, c.if-s-c, c.if-s-eq7, c.if-e-s, c.if-why-ne0, c.gate_why-why, c.gate_why-arg-1, c.requires)
+unfolding receive
+returns c = λ h k m. passed _ _ _ h k m _ _ _ _ c.from.ensures _ _ c.gate.ensures c.in_ok-gate.was (sync-done _ _ h k m _ _ _ _ (search rules) (search rules) (search rules) c.sync_fourth.ensures c.requires.0 c.requires.1)

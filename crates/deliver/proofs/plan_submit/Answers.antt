@@ -5,11 +5,11 @@ use Rattle.deliver.proofs.plan_submit.Goals as goal
 pub returns-then-s-ne8 : goal.returns-then-s-ne8
 returns-then-s-ne8 c = λ k m. search (submit-role, rules)
 
-pub returns-then-z-s : goal.returns-then-z-s
-returns-then-z-s c = λ k m. search (submit-full, rules)
+pub returns-then-le : goal.returns-then-le
+returns-then-le c = λ k m. search (submit-full, rules)
 
-pub returns-then-last-s : goal.returns-then-last-s
-returns-then-last-s c = λ k m. search (submit-last, rules)
+pub returns-then-eq : goal.returns-then-eq
+returns-then-eq c = λ k m. search (submit-last, rules)
 
 pub returns : goal.returns
-returns c = λ k m. let a = c.args in submit-done a.z a.s _ _ k m a.v _ _ c.if-s-ne8.false c.if-z-s.false c.last_id-last.ensures c.if-last-s.false c.next_id-id.ensures c.planned.ensures c.requires.0
+returns c = λ k m. submit-done _ _ _ k m _ _ _ _ (search rules) (search rules) c.last_id-last.ensures (search rules) c.next_id.ensures c.planned.ensures c.requires.0

@@ -1,19 +1,24 @@
-use native.Mathlib.Omega.{arith}
-use Rattle.follow.proofs.Laws.{lead-gate, lead-epoch, lead-short, lead-undo, lead-done}
 use borrow.Author.Rules.{rules}
+use Rattle.rules.specs.Step.{receive, on_newleader}
+use Rattle.plan.proofs.Laws.{past-gate}
+use Rattle.follow.proofs.Laws.{shut, other-epoch, lead-short, lead-undo, lead-done}
 use Rattle.follow.proofs.plan_newleader.Goals as goal
+use Rattle.follow.proofs.plan_newleader.Goals.{then-lt-via-then-lt, then-lt-via-else-lt+then-not-same_prefix}
 
-pub returns-then-why-ne0 : goal.returns-then-why-ne0
-returns-then-why-ne0 c = λ k. search (lead-gate, rules)
+pub returns-in_err-gate : goal.returns-in_err-gate
+unfolding receive
+returns-in_err-gate c = λ k. shut _ _ _ _ k _ _ _ c.from_residual.ensures.1 (c.in_err-gate.ensures _)
 
-pub returns-then-e-p : goal.returns-then-e-p
-returns-then-e-p c = λ k. let a = c.args in let t = c.if-e-p.true in lead-epoch a.z a.s _ a.hist.now k a.load.now a.from a.e.0 a.n.0 _ c.gate_why-why.ensures (search (rules, c.if-why-ne0)) (λ q. omega (arith, q)) c.refusal-then-e-p.ensures
+pub returns-then-ne : goal.returns-then-ne
+unfolding receive on_newleader
+returns-then-ne c = λ k. past-gate _ _ _ _ k _ _ _ _ _ (c.gate.ensures _) c.in_ok-gate.was (search (other-epoch, rules))
 
-pub returns-then-n-d : goal.returns-then-n-d
-returns-then-n-d c = λ k. let a = c.args in lead-short a.z a.s _ a.hist.now k a.load.now a.from a.e.0 a.n.0 _ c.gate_why-why.ensures (search (rules, c.if-why-ne0)) (search (rules, c.if-e-p)) (search (rules, c.if-n-d)) c.refusal-then-n-d.ensures
-
-pub returns-then-same_prefix : goal.returns-then-same_prefix
-returns-then-same_prefix c = λ k. search (lead-done, rules, c.planned, c.no_txn-none, c.solo-one, c.if-same_prefix, c.same_prefix, c.if-n-d, c.if-e-p, c.p-1, c.if-why-ne0, c.gate_why-why, c.requires)
+pub returns-then-lt : goal.returns-then-lt
+unfolding receive
+returns-then-lt c = λ k. past-gate _ _ _ _ k _ _ _ _ _ (c.gate.ensures _) c.in_ok-gate.was
+    (elim c.then-lt.branch [ then-lt-via-then-lt w ↦ search (lead-short, rules) | then-lt-via-else-lt+then-not-same_prefix w ↦ lead-undo _ _ _ k _ _ _ _ _ (search rules) (search rules) c.requires.0 w.same_prefix.ensures (search rules) ])
 
 pub returns : goal.returns
-returns c = λ k. search (lead-undo, rules, c.refusal-2, c.if-same_prefix, c.same_prefix, c.if-n-d, c.if-e-p, c.p-1, c.if-why-ne0, c.gate_why-why, c.requires)
+unfolding receive
+returns c = λ k. past-gate _ _ _ _ k _ _ _ _ _ (c.gate.ensures _) c.in_ok-gate.was
+    (lead-done _ _ _ k _ _ _ _ _ (search rules) (search rules) c.requires.0 c.same_prefix.ensures _ (search rules) (search rules) c.requires.1.0 (rw (c.planned.ensures, c.no_txn.ensures, c.solo-one.ensures)))

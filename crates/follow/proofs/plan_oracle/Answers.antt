@@ -6,7 +6,7 @@ pub returns-then-z-x : goal.returns-then-z-x
 returns-then-z-x c = λ h k m. search (oracle-none, rules)
 
 pub returns-then-x-s : goal.returns-then-x-s
-returns-then-x-s c = λ h k m. oracle-self _ _ _ h k m (search rules) _ _ (search rules) (search rules) c.nobody-one.ensures (rw c.cleared-t.ensures at c.anew.ensures)
+returns-then-x-s c = λ h k m. oracle-self _ _ _ h k m c.requires _ (search rules) (search rules) (rw (c.anew.ensures, c.from.ensures, c.cleared-t.ensures, c.nobody.ensures))
 
 pub returns : goal.returns
-returns c = λ h k m. oracle-other _ _ _ h k m (search rules) _ _ (search rules) (search rules) c.solo-one.ensures (rw c.cleared-t-2.ensures at c.anew-2.ensures)
+returns c = λ h k m. oracle-other _ _ _ h k m c.requires _ (search rules) (search rules) (rw (c.anew-2.ensures, c.cleared-t-2.ensures, c.solo.ensures))

@@ -1,24 +1,29 @@
-use Rattle.follow.proofs.Laws.{propose-gate, propose-epoch, propose-place, propose-gap, propose-full, propose-done}
 use borrow.Author.Rules.{rules}
+use Rattle.rules.specs.Step.{receive, on_propose}
+use Rattle.plan.proofs.Laws.{past-gate}
+use Rattle.follow.proofs.Laws.{shut, other-epoch, propose-place, propose-gap, propose-full, propose-done}
 use Rattle.follow.proofs.plan_propose.Goals as goal
+use Rattle.follow.proofs.plan_propose.Goals.{then-n-s-via-then-n-s, then-n-s-via-else-n-s+then-not-comes_next}
 
-pub returns-then-why-ne0 : goal.returns-then-why-ne0
-returns-then-why-ne0 c = λ k m. search (propose-gate, rules)
+pub returns-in_err-gate : goal.returns-in_err-gate
+unfolding receive
+returns-in_err-gate c = λ k m. shut _ _ _ _ k m _ _ c.from_residual.ensures.1 (c.in_err-gate.ensures _)
 
-pub returns-then-e-s : goal.returns-then-e-s
-returns-then-e-s c = λ k m. search (propose-epoch, rules)
+pub returns-then-ne : goal.returns-then-ne
+unfolding receive on_propose
+returns-then-ne c = λ k m. past-gate _ _ _ _ k m _ _ _ _ (c.gate.ensures _) c.in_ok-gate.was (search (other-epoch, rules))
 
-pub returns-then-n-len : goal.returns-then-n-len
-returns-then-n-len c = λ k m. search (propose-place, rules)
+pub returns-then-n-s : goal.returns-then-n-s
+unfolding receive
+returns-then-n-s c = λ k m. past-gate _ _ _ _ k m _ _ _ _ (c.gate.ensures _) c.in_ok-gate.was
+    (elim c.then-n-s.branch [ then-n-s-via-then-n-s w ↦ search (propose-place, rules) | then-n-s-via-else-n-s+then-not-comes_next w ↦ propose-gap _ _ _ k m _ _ _ _ _ _ (search rules) (search rules) w.last_id.ensures w.comes_next.ensures (search rules) ])
 
-pub solo-one-requires : goal.solo-one-requires
-solo-one-requires c = search (rules, c.requires)
-
-pub returns-then-len-z : goal.returns-then-len-z
-returns-then-len-z c = λ k m. search (propose-done, rules, c.planned, c.solo-one, c.if-len-z, c.if-comes_next, c.comes_next, c.next_counter-c, c.last_id-last, c.if-n-len, c.len-1, c.if-e-s, c.if-why-ne0, c.gate_why-why, c.requires)
-
-pub returns-then-comes_next : goal.returns-then-comes_next
-returns-then-comes_next c = λ k m. search (propose-full, rules, c.refusal-then-comes_next, c.if-len-z, c.if-comes_next, c.comes_next, c.next_counter-c, c.last_id-last, c.if-n-len, c.len-1, c.if-e-s, c.if-why-ne0, c.gate_why-why, c.requires)
+pub returns-then-le : goal.returns-then-le
+unfolding receive
+returns-then-le c = λ k m. past-gate _ _ _ _ k m _ _ _ _ (c.gate.ensures _) c.in_ok-gate.was
+    (propose-full _ _ _ k m _ _ _ _ _ _ (search rules) (search rules) c.last_id.ensures c.comes_next.ensures (search rules) (search rules))
 
 pub returns : goal.returns
-returns c = λ k m. search (propose-gap, rules, c.refusal-2, c.if-comes_next, c.comes_next, c.next_counter-c, c.last_id-last, c.if-n-len, c.len-1, c.if-e-s, c.if-why-ne0, c.gate_why-why, c.requires)
+unfolding receive
+returns c = λ k m. past-gate _ _ _ _ k m _ _ _ _ (c.gate.ensures _) c.in_ok-gate.was
+    (propose-done _ _ _ k m _ _ _ _ _ _ (search rules) (search rules) c.last_id.ensures c.comes_next.ensures _ (search rules) (search rules) c.requires.0 c.requires.1.0 (rw (c.planned.ensures, c.solo-one.ensures)))

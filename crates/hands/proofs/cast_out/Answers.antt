@@ -1,14 +1,13 @@
-use Rattle.hands.proofs.Laws.{with-hist₃, with-hist₄, with-txn, with_none}
+use native.Mathlib.Omega.{arith}
+use Rattle.hands.proofs.Laws.{with-hist, with-txn, with_none}
 use Rattle.hands.proofs.cast_out.Goals as goal
+use Rattle.hands.proofs.cast_out.Goals.{in_default-via-then-c-lt3, in_default-via-else-c-lt3+else-c-lt5}
 
-pub returns-then-kind-eq3 : goal.returns-then-kind-eq3
-returns-then-kind-eq3 c = with-hist₃ _ _ _ _ _ _ _ _ _ _ c.requires c.if-kind-eq3.true c.send_all.ensures
+pub returns-in-3 : goal.returns-in-3
+returns-in-3 c = with-hist _ _ _ _ _ _ _ _ _ _ c.requires (omega arith) (omega arith) c.send_all-in-3.ensures
 
-pub returns-then-kind-eq4 : goal.returns-then-kind-eq4
-returns-then-kind-eq4 c = with-hist₄ _ _ _ _ _ _ _ _ _ _ c.requires c.if-kind-eq3.false c.if-kind-eq4.true c.send_all-then-kind-eq4.ensures
+pub returns-in-7 : goal.returns-in-7
+returns-in-7 c = with-txn _ _ _ _ _ _ _ _ _ _ c.requires c.in-7.is c.send_all.ensures
 
-pub returns-then-kind-eq7 : goal.returns-then-kind-eq7
-returns-then-kind-eq7 c = with-txn _ _ _ _ _ _ _ _ _ _ c.requires c.if-kind-eq3.false c.if-kind-eq4.false c.if-kind-eq7.true c.send_all-then-kind-eq7.ensures
-
-pub returns : goal.returns
-returns c = with_none _ _ _ _ _ _ _ _ _ _ c.requires c.if-kind-eq3.false c.if-kind-eq4.false c.if-kind-eq7.false c.send_all-2.ensures
+pub returns-in_default : goal.returns-in_default
+returns-in_default c = elim c.in_default.branch [ in_default-via-then-c-lt3 w ↦ with_none _ _ _ _ _ _ _ _ _ _ c.requires (omega arith) (omega arith) (omega arith) c.send_all-in_default.ensures | in_default-via-else-c-lt3+else-c-lt5 w ↦ with_none _ _ _ _ _ _ _ _ _ _ c.requires (omega arith) (omega arith) (omega arith) c.send_all-in_default.ensures ]

@@ -1,12 +1,12 @@
-use Rattle.lead.proofs.Laws.{join-spent, join-elect, join-wait}
+use Rattle.lead.proofs.Laws.{join-wait, join-spent, join-elect}
 use borrow.Author.Rules.{rules}
 use Rattle.lead.proofs.join_first.Goals as goal
 
-pub returns-then-m : goal.returns-then-m
-returns-then-m c = λ h k m. search (join-spent, rules, c.refusal, c.if-m, c.if-is_quorum, c.is_quorum, c.q-1, c.larger_epoch-m, c.requires)
+pub returns-then-not-is_quorum : goal.returns-then-not-is_quorum
+returns-then-not-is_quorum c = λ h k m. join-wait _ _ _ _ _ h k m c.requires.0 c.requires.1.0 c.from.ensures c.if-not-is_quorum.ensures (search rules) c.requires.1.1 c.quiet.ensures
 
-pub returns-then-is_quorum : goal.returns-then-is_quorum
-returns-then-is_quorum c = λ h k m. search (join-elect, rules, c.elect, c.if-m, c.if-is_quorum, c.is_quorum, c.q-1, c.larger_epoch-m, c.requires)
+pub returns-then-t : goal.returns-then-t
+returns-then-t c = λ h k m. join-spent _ _ _ _ _ h k m c.requires.0 c.requires.1.0 c.from.ensures c.if-not-is_quorum.ensures (search rules) c.if-t.true
 
 pub returns : goal.returns
-returns c = λ h k m. search (join-wait, rules, c.quiet, c.if-is_quorum, c.is_quorum, c.q-1, c.larger_epoch-m, c.requires)
+returns c = λ h k m. join-elect _ _ _ _ _ h k m c.requires.0 c.requires.1.0 c.from.ensures c.if-not-is_quorum.ensures (search rules) (search rules) c.elect.ensures

@@ -1,12 +1,16 @@
-use Rattle.message.proofs.Laws.{tidy-fits, reads, unread}
-use borrow.Author.Rules.{rules}
+use native.Mathlib.Omega.{arith}
+use mathlib.Core.Path.{sym, ◌∙◌}
+use Rattle.message.proofs.Laws.{tidy_room, reads, unread}
 use Rattle.message.proofs.read.Goals as goal
 
 pub read_said-requires : goal.read_said-requires
-read_said-requires c = let p = c.requires in tidy-fits _ _ _ c.is_tidy.ensures c.if-is_tidy.true p.0 p.1.0 p.1.1
+read_said-requires c =
+    let p = c.requires in
+    let k = tidy_room c.args.z c.args.m.now (sym c.is_tidy.ensures ∙ c.if-is_tidy.true) in
+    (omega arith, (omega arith, omega arith))
 
 pub returns-then-is_tidy : goal.returns-then-is_tidy
-returns-then-is_tidy c = search (reads, rules)
+returns-then-is_tidy c = reads _ _ _ (sym c.is_tidy.ensures ∙ c.if-is_tidy.true) c.read_said.ensures
 
-pub returns : goal.returns
-returns c = search (unread, rules)
+pub returns-else-is_tidy : goal.returns-else-is_tidy
+returns-else-is_tidy c = unread _ _ (sym c.is_tidy.ensures ∙ c.if-is_tidy.false)

@@ -1,17 +1,23 @@
-use Prim.Native.Nat.{◌≤◌, ◌<◌}
-use lib.ListN.{get_or}
-use Rattle.message.proofs.Laws.{acke-wide, acke-old, acke-bad, acke-told, part-all}
-use borrow.Author.Rules.{rules}
+use native.Mathlib.Omega.{arith}
+use Rattle.base.specs.Choice.{both}
+use Rattle.rules.specs.Message.{formed}
+use Rattle.plan.specs.Plans.{meant, held}
+use Rattle.std.proofs.lemmas.Grind.{common_steps}
+use Rattle.message.proofs.Laws.{told, not_told, good, part-all}
 use Rattle.message.proofs.read_acke.Goals as goal
 
-pub returns-then-e-gt-LAST : goal.returns-then-e-gt-LAST
-returns-then-e-gt-LAST c = λ z h. search (acke-wide, rules)
+pub returns-in_err-e : goal.returns-in_err-e
+unfolding formed both
+returns-in_err-e c = λ z h. not_told z _ _ _ (grind (arith, common_steps, good, part-all)) (grind (arith, common_steps, good, part-all))
 
-pub returns-then-e-x : goal.returns-then-e-x
-returns-then-e-x c = λ z h. let m = c.args.m.now in let k : get_or m 1 0 ≤ get_or m 2 0 = search rules in search (acke-old, rules)
+pub returns-in_err-a : goal.returns-in_err-a
+unfolding formed both
+returns-in_err-a c = λ z h. not_told z _ _ _ (grind (arith, common_steps, good, part-all)) (grind (arith, common_steps, good, part-all))
 
 pub returns-then-rises : goal.returns-then-rises
-returns-then-rises c = λ z h. let m = c.args.m.now in let k : get_or m 2 0 < get_or m 1 0 = search rules in let q = rw (part-all 4 m) at c.rises.ensures in search (acke-told, rules)
+unfolding formed both meant held
+returns-then-rises c = λ z h. told z _ _ _ (grind (arith, common_steps, good, part-all)) (grind (arith, common_steps, good, part-all)) (grind (arith, common_steps, good, part-all))
 
-pub returns : goal.returns
-returns c = λ z h. let q = rw (part-all 4 c.args.m.now) at c.rises.ensures in search (acke-bad, rules)
+pub returns-else-a-e : goal.returns-else-a-e
+unfolding formed both
+returns-else-a-e c = λ z h. not_told z _ _ _ (grind (arith, common_steps, good, part-all)) (grind (arith, common_steps, good, part-all))

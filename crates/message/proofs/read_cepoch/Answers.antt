@@ -1,9 +1,15 @@
-use Rattle.message.proofs.Laws.{cepoch-wide, cepoch-told}
-use borrow.Author.Rules.{rules}
+use native.Mathlib.Omega.{arith}
+use Rattle.base.specs.Choice.{both}
+use Rattle.rules.specs.Message.{formed}
+use Rattle.plan.specs.Plans.{meant, held}
+use Rattle.std.proofs.lemmas.Grind.{common_steps}
+use Rattle.message.proofs.Laws.{told, not_told}
 use Rattle.message.proofs.read_cepoch.Goals as goal
 
-pub returns-then-p-gt-LAST : goal.returns-then-p-gt-LAST
-returns-then-p-gt-LAST c = λ z w. search (cepoch-wide, rules)
+pub returns-in_err-e : goal.returns-in_err-e
+unfolding formed both
+returns-in_err-e c = λ z w. not_told z w _ _ (grind (arith, common_steps)) (grind (arith, common_steps))
 
 pub returns : goal.returns
-returns c = λ z w. search (cepoch-told, rules)
+unfolding formed both meant held
+returns c = λ z w. told z w _ _ (grind (arith, common_steps)) (grind (arith, common_steps)) (grind (arith, common_steps))

@@ -1,16 +1,19 @@
-use Prim.Native.Nat.{◌≤◌}
-use Rattle.message.proofs.Laws.{commit-told, commit-bad, ranged-e, ranged-x}
-use borrow.Author.Rules.{rules}
+use native.Mathlib.Omega.{arith}
+use Rattle.base.specs.Choice.{both}
+use Rattle.rules.specs.Message.{formed}
+use Rattle.plan.specs.Plans.{meant, held}
+use Rattle.std.proofs.lemmas.Grind.{common_steps}
+use Rattle.message.proofs.Laws.{told, not_told}
 use Rattle.message.proofs.read_commit.Goals as goal
 
-pub overflow_cast-e : goal.overflow_cast-e
-overflow_cast-e c = let h : c.args.x ≤ 4294967295 = search (ranged-e, rules) in search rules
+pub returns-in_err-e : goal.returns-in_err-e
+unfolding formed both
+returns-in_err-e c = λ z w. not_told z w _ _ (grind (arith, common_steps)) (grind (arith, common_steps))
 
-pub overflow_cast-c : goal.overflow_cast-c
-overflow_cast-c c = let h : c.args.y ≤ 4294967295 = search (ranged-x, rules) in search rules
-
-pub returns-then-in_range : goal.returns-then-in_range
-returns-then-in_range c = λ z w. search (commit-told, rules)
+pub returns-in_err-c : goal.returns-in_err-c
+unfolding formed both
+returns-in_err-c c = λ z w. not_told z w _ _ (grind (arith, common_steps)) (grind (arith, common_steps))
 
 pub returns : goal.returns
-returns c = λ z w. search (commit-bad, rules)
+unfolding formed both meant held
+returns c = λ z w. told z w _ _ (grind (arith, common_steps)) (grind (arith, common_steps)) (grind (arith, common_steps))

@@ -1,13 +1,15 @@
-use Prim.Native.Nat.{◌≤◌, ◌<◌}
-use Rattle.message.proofs.Laws.{newepoch-none, newepoch-wide, newepoch-told}
-use borrow.Author.Rules.{rules}
+use native.Mathlib.Omega.{arith}
+use Rattle.base.specs.Choice.{both}
+use Rattle.rules.specs.Message.{formed}
+use Rattle.plan.specs.Plans.{meant, held}
+use Rattle.std.proofs.lemmas.Grind.{common_steps}
+use Rattle.message.proofs.Laws.{told, not_told}
 use Rattle.message.proofs.read_newepoch.Goals as goal
 
-pub returns-then-n-lt1 : goal.returns-then-n-lt1
-returns-then-n-lt1 c = λ z w. let k : c.args.n < 1 = search rules in search (newepoch-none, rules)
-
-pub returns-then-n-gt-LAST : goal.returns-then-n-gt-LAST
-returns-then-n-gt-LAST c = λ z w. search (newepoch-wide, rules)
+pub returns-in_err-e : goal.returns-in_err-e
+unfolding formed both
+returns-in_err-e c = λ z w. not_told z w _ _ (grind (arith, common_steps)) (grind (arith, common_steps))
 
 pub returns : goal.returns
-returns c = λ z w. let k : 1 ≤ c.args.n = search rules in search (newepoch-told, rules)
+unfolding formed both meant held
+returns c = λ z w. told z w _ _ (grind (arith, common_steps)) (grind (arith, common_steps)) (grind (arith, common_steps))

@@ -1,15 +1,19 @@
-use Rattle.message.proofs.Laws.{newleader-none, newleader-wide, newleader-bad, newleader-told, part-all}
-use borrow.Author.Rules.{rules}
+use native.Mathlib.Omega.{arith}
+use Rattle.base.specs.Choice.{both}
+use Rattle.rules.specs.Message.{formed}
+use Rattle.plan.specs.Plans.{meant, held}
+use Rattle.std.proofs.lemmas.Grind.{common_steps}
+use Rattle.message.proofs.Laws.{told, not_told, good, part-all}
 use Rattle.message.proofs.read_newleader.Goals as goal
 
-pub returns-then-x-lt1 : goal.returns-then-x-lt1
-returns-then-x-lt1 c = λ z h. search (newleader-none, rules)
-
-pub returns-then-x-gt-LAST : goal.returns-then-x-gt-LAST
-returns-then-x-gt-LAST c = λ z h. search (newleader-wide, rules)
+pub returns-in_err-e : goal.returns-in_err-e
+unfolding formed both
+returns-in_err-e c = λ z h. not_told z _ _ _ (grind (arith, common_steps, good, part-all)) (grind (arith, common_steps, good, part-all))
 
 pub returns-then-rises : goal.returns-then-rises
-returns-then-rises c = λ z h. let q = rw (part-all 4 c.args.m.now) at c.rises.ensures in search (newleader-told, rules)
+unfolding formed both meant held
+returns-then-rises c = λ z h. told z _ _ _ (grind (arith, common_steps, good, part-all)) (grind (arith, common_steps, good, part-all)) (grind (arith, common_steps, good, part-all))
 
-pub returns : goal.returns
-returns c = λ z h. let q = rw (part-all 4 c.args.m.now) at c.rises.ensures in search (newleader-bad, rules)
+pub returns-else-rises : goal.returns-else-rises
+unfolding formed both
+returns-else-rises c = λ z h. not_told z _ _ _ (grind (arith, common_steps, good, part-all)) (grind (arith, common_steps, good, part-all))

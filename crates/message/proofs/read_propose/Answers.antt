@@ -1,23 +1,23 @@
-use Prim.Native.Nat.{◌≤◌}
-use lib.ListN.{get_or}
-use Rattle.message.proofs.Laws.{propose-other, propose-none, propose-bad, propose-told, ranged-e, ranged-x}
-use borrow.Author.Rules.{rules}
+use native.Mathlib.Omega.{arith}
+use Rattle.base.specs.Choice.{both}
+use Rattle.rules.specs.Message.{formed}
+use Rattle.plan.specs.Plans.{meant, held}
+use Rattle.std.proofs.lemmas.Grind.{common_steps}
+use Rattle.message.proofs.Laws.{told, not_told, txn-at}
 use Rattle.message.proofs.read_propose.Goals as goal
 
-pub returns-then-id-x : goal.returns-then-id-x
-returns-then-id-x c = λ z w. search (propose-other, rules)
+pub returns-in_err-e : goal.returns-in_err-e
+unfolding formed both
+returns-in_err-e c = λ z w. not_told z _ _ _ (grind (arith, common_steps, txn-at)) (grind (arith, common_steps, txn-at))
 
-pub returns-then-id-lt1 : goal.returns-then-id-lt1
-returns-then-id-lt1 c = λ z w. search (propose-none, rules)
+pub returns-in_err-k : goal.returns-in_err-k
+unfolding formed both
+returns-in_err-k c = λ z w. not_told z _ _ _ (grind (arith, common_steps, txn-at)) (grind (arith, common_steps, txn-at))
 
-pub overflow_cast-e : goal.overflow_cast-e
-overflow_cast-e c = let h : get_or c.args.m.now 1 0 ≤ 4294967295 = search (ranged-e, rules) in search rules
+pub returns-then-id-ge1 : goal.returns-then-id-ge1
+unfolding formed both meant held
+returns-then-id-ge1 c = λ z w. told z _ _ _ (grind (arith, common_steps, txn-at)) (grind (arith, common_steps, txn-at)) (grind (arith, common_steps, txn-at))
 
-pub overflow_cast-k : goal.overflow_cast-k
-overflow_cast-k c = let h : get_or c.args.m.now 2 0 ≤ 4294967295 = search (ranged-x, rules) in search rules
-
-pub returns-then-in_range : goal.returns-then-in_range
-returns-then-in_range c = λ z w. search (propose-told, rules)
-
-pub returns : goal.returns
-returns c = λ z w. search (propose-bad, rules)
+pub returns-else-id-m : goal.returns-else-id-m
+unfolding formed both
+returns-else-id-m c = λ z w. not_told z _ _ _ (grind (arith, common_steps, txn-at)) (grind (arith, common_steps, txn-at))

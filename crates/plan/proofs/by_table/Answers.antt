@@ -1,8 +1,7 @@
-use Rattle.rules.specs.Table.{table}
-use Rattle.plan.proofs.Table.{in_table}
+use Rattle.plan.proofs.Table.{rows, in_table}
 use borrow.Author.Rules.{rules}
 use Rattle.plan.proofs.by_table.Goals as goal
 
 pub returns : goal.returns
-unfolding table
-returns c = in_table c.args.kind c.args.stage (search rules) (search rules) (search rules)
+unfolding rows
+returns c = in_table _ _ c.args.kind c.args.stage c.from.result c.from-2.result (search rules) (search rules) (search rules) (search rules) (search rules)

@@ -1,3 +1,4 @@
+use mathlib.Core.Path.{refl}
 use native.Mathlib.Omega.{arith}
 use Rattle.server.proofs.Laws.{facts, sized_of, on-oracle, on-restart, on-submit, on-unknown, on-deliver, can-deliver}
 use borrow.Author.Rules.{rules}
@@ -28,4 +29,4 @@ pub returns-in-Submit : goal.returns-in-Submit
 returns-in-Submit c = let a = c.args in let p = c.requires in let g = c.well_formed in on-submit a.z a.s _ a.hist.now a.cand.now a.msg.now _ _ c.in-Submit.is (λ y. c.plan_submit.ensures a.cand.now y)
 
 pub returns-in-Unknown : goal.returns-in-Unknown
-returns-in-Unknown c = let a = c.args in let p = c.requires in let g = c.well_formed in on-unknown a.z a.s _ a.hist.now a.cand.now a.msg.now _ c.in-Unknown.is c.refusal.ensures
+returns-in-Unknown c = let a = c.args in let p = c.requires in let g = c.well_formed in on-unknown a.z a.s _ a.hist.now a.cand.now a.msg.now _ c.in-Unknown.is refl

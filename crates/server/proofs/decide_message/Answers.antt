@@ -1,4 +1,4 @@
-use Rattle.server.proofs.Laws.{on-cepoch, on-newepoch, on-acke, on-newleader, on-ackld, on-commitld, on-propose, on-ack, on-commit, on-bad, held-acke, held-newleader}
+use Rattle.server.proofs.Laws.{on-cepoch, on-newepoch, on-acke, on-newleader, on-ackld, on-commitld, on-propose, on-ack, on-commit, held-acke, held-newleader}
 use Rattle.server.proofs.decide_message.Goals as goal
 
 pub plan_acke-requires : goal.plan_acke-requires
@@ -33,6 +33,3 @@ returns-in-Ack c = let a = c.args in on-ack _ a.s _ a.from a.hist.now a.cand.now
 
 pub returns-in-Commit : goal.returns-in-Commit
 returns-in-Commit c = let a = c.args in on-commit _ a.s _ a.from a.hist.now a.cand.now a.load.now _ _ _ c.in-Commit.is (c.plan_commit.ensures a.hist.now a.cand.now a.load.now)
-
-pub returns-in-Bad : goal.returns-in-Bad
-returns-in-Bad c = let a = c.args in on-bad _ a.s _ a.from a.hist.now a.cand.now a.load.now _ c.in-Bad.is c.refusal.ensures

@@ -1,15 +1,9 @@
-use Rattle.sound.proofs.Laws.{cand-rises, cand-old, cand-some, cand-off}
-use borrow.Author.Rules.{rules}
+use native.Mathlib.Omega.{arith}
+use Rattle.base.specs.Choice.{both, either}
+use Rattle.rules.specs.Server.{good_candidate}
+use Rattle.std.proofs.lemmas.Grind.{common_steps}
 use Rattle.sound.proofs.good_candidate.Goals as goal
 
-pub returns-then-a-p : goal.returns-then-a-p
-returns-then-a-p c = λ z b d w j k y g q h. search (cand-rises, rules)
-
-pub returns-then-stage-eq6 : goal.returns-then-stage-eq6
-returns-then-stage-eq6 c = λ z b d w j k y g q h. search (cand-old, rules)
-
-pub returns-then-a-ne0 : goal.returns-then-a-ne0
-returns-then-a-ne0 c = λ z b d w j k y g q h. search (cand-some, rules)
-
-pub returns : goal.returns
-returns c = λ z b d w j k y g q h. search (cand-off, rules)
+pub returns-else-s : goal.returns-else-s
+unfolding good_candidate both either
+returns-else-s c = λ z b d w j k y g q h. grind (arith, common_steps)

@@ -1,16 +1,14 @@
+use native.Mathlib.Omega.{arith}
+use Rattle.base.specs.Choice.{both, either}
+use Rattle.rules.specs.Server.{during}
 use Rattle.sound.specs.Parts.{sets_live}
-use Rattle.sound.proofs.Laws.{passes, fails}
-use borrow.Author.Rules.{rules}
+use Rattle.std.proofs.lemmas.Grind.{common_steps}
 use Rattle.sound.proofs.good_lives.Goals as goal
 
-pub returns-then-not-lives_during : goal.returns-then-not-lives_during
-unfolding sets_live
-returns-then-not-lives_during c = search (passes, fails, rules) depth 9
+pub returns-else-matches-2 : goal.returns-else-matches-2
+unfolding sets_live during both either
+returns-else-matches-2 c = grind (arith, common_steps)
 
-pub returns-then-not-lives_at : goal.returns-then-not-lives_at
-unfolding sets_live
-returns-then-not-lives_at c = search (passes, fails, rules) depth 9
-
-pub returns : goal.returns
-unfolding sets_live
-returns c = search (passes, fails, rules) depth 9
+pub returns-else-is_empty-2 : goal.returns-else-is_empty-2
+unfolding sets_live during both either
+returns-else-is_empty-2 c = grind (arith, common_steps)

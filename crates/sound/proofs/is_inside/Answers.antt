@@ -1,18 +1,15 @@
-use mathlib.Core.Path.{refl}
-use Rattle.rules.specs.Server.{empty, inside}
-use Rattle.sound.proofs.Laws.{inside_rest, inside-stop, inside_on, inside-end}
+use mathlib.Core.Path.{◌∙◌}
+use mathlib.Core.Bool.{not}
 use borrow.Author.Rules.{rules}
+use borrow.Author.Tests.{tests}
+use Rattle.base.specs.Choice.{either}
+use Rattle.std.proofs.lemmas.Iterator.{YieldsList-from_slice, YieldsList-from_zip}
+use Rattle.std.proofs.lemmas.Iterator.Search.{all_from_yields_List}
+use Rattle.sound.proofs.Laws.{pairs}
 use Rattle.sound.proofs.is_inside.Goals as goal
 
-pub loop-i-init : goal.loop-i-init
-unfolding inside_rest inside empty
-loop-i-init c = (search rules, refl)
-
-pub loop-i-preserved : goal.loop-i-preserved
-loop-i-preserved c = (search rules, search (inside_on, rules))
-
-pub returns-else-implies : goal.returns-else-implies
-returns-else-implies c = search (inside-stop, rules)
-
 pub returns : goal.returns
-returns c = search (inside-end, rules)
+unfolding either
+returns c =
+    all_from_yields_List (λ t. either (not t.0) t.1) c.all.new.self _ _ c.all.ensures.ran (YieldsList-from_zip (YieldsList-from_slice c.args.q cc) (YieldsList-from_slice c.args.p cc)) (λ x b q k. search (rules, tests))
+    ∙ pairs c.args.q c.args.p (search rules) (search rules)
