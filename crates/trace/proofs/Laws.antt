@@ -1,5 +1,5 @@
 -- One law for each answer of a record's step.
-use Prim.Native.Nat.{ℕ, zero, suc, ◌+◌, ◌-◌, ◌≤◌, ◌<◌}
+use Prim.Native.Nat.{ℕ, zero, suc, ◌+◌, ◌-◌, ◌≤◌, ◌<◌, max}
 use mathlib.Core.Path.{◌≡◌, refl, sym, ap, ◌∙◌, subst}
 use mathlib.Core.Bool.{Bool, true, false, not}
 use mathlib.Core.List.{List, [], ◌∷◌, ◌++◌, map, append_assoc}
@@ -17,8 +17,11 @@ use Rattle.trace.specs.Fold.{none, mem, st_of}
 use Rattle.trace.specs.Held.{any_v}
 use Rattle.trace.specs.Words.{kind_of, who_of, epoch_at, counter_at, entry_at, rec_at, past_at, grown, laid, latest_of}
 use Rattle.trace.specs.Step.{Holds, Stepped, Source, inside_of, late_of}
+use Rattle.std.specs.Prelude.{Result, Ok, Err, Some}
 use Rattle.trace.specs.declared.step.State.{State}
-use Rattle.trace.specs.declared.step.Told.{Told}
+use Rattle.trace.specs.declared.Rule.{Rule}
+use Rattle.trace.specs.declared.Rule.TheVariants.{OneE, CountersRun, EarlierB, OneBegins, EarlierEpochs}
+use Rattle.trace.specs.Number.{number}
 use Rattle.trace.proofs.Exact.{last-is, has-any}
 use Rattle.trace.proofs.Four.{at_in}
 use Rattle.trace.proofs.Main.{step-inv}
@@ -32,59 +35,56 @@ get-map f (x ∷ m) (suc k) h = get-map f m k (omega arith)
 
 -- ---- rule 2
 
-module _ (w : List ℕ) (i : ℕ) {m : ℕ} (em : m ≡ latest_of w (epoch_at w i) i) (k1 : rule1 (past_at w i) ≡ true) (k2 : rule2 (past_at w i) ≡ true) where
-  pub follows-none : m ≡ 0 → false ≡ both (has_e (who_of w i) (epoch_at w i) (past_at w i)) (eqb (counter_at w i) (count_b (epoch_at w i) (past_at w i) + 1))
+module _ (w : List ℕ) (i : ℕ) (k1 : rule1 (past_at w i) ≡ true) (k2 : rule2 (past_at w i) ≡ true) where
+  pub follows-none : 0 ≡ latest_of w (epoch_at w i) i → false ≡ both (has_e (who_of w i) (epoch_at w i) (past_at w i)) (eqb (counter_at w i) (count_b (epoch_at w i) (past_at w i) + 1))
   unfolding both
   follows-none z =
-      let y : any_e (epoch_at w i) (past_at w i) ≡ false = (near w (epoch_at w i) i k1 k2).no (sym em ∙ z) in
+      let y : any_e (epoch_at w i) (past_at w i) ≡ false = (near w (epoch_at w i) i k1 k2).no (sym z) in
       rw (has-any (past_at w i) (who_of w i) (epoch_at w i) y)
 
-  module _ {x y : ℕ} (nz : m ≡ 0 → ⊥) (ex : x ≡ who_of w (m - 1)) (ey : y ≡ who_of w i) where
-    last : suc (m - 1) ≡ m
-    last = omega arith
-
+  module _ {j x y : ℕ} (last : suc j ≡ latest_of w (epoch_at w i) i) (ex : x ≡ who_of w j) (ey : y ≡ who_of w i) where
     owner : has_e (who_of w i) (epoch_at w i) (past_at w i) ≡ eqb y x
-    owner = ((near w (epoch_at w i) i k1 k2).at (m - 1) (sym em ∙ sym last)).own (who_of w i) ∙ rw (← ex, ← ey)
+    owner = ((near w (epoch_at w i) i k1 k2).at j (sym last)).own (who_of w i) ∙ rw (← ex, ← ey)
 
-    count : count_b (epoch_at w i) (past_at w i) ≡ pick (eqb (kind_of w (m - 1)) 1) 0 (counter_at w (m - 1))
-    count = ((near w (epoch_at w i) i k1 k2).at (m - 1) (sym em ∙ sym last)).cnt
+    count : count_b (epoch_at w i) (past_at w i) ≡ pick (eqb (kind_of w j) 1) 0 (counter_at w j)
+    count = ((near w (epoch_at w i) i k1 k2).at j (sym last)).cnt
 
     pub follows-other : (x ≡ y → ⊥) → false ≡ both (has_e (who_of w i) (epoch_at w i) (past_at w i)) (eqb (counter_at w i) (count_b (epoch_at w i) (past_at w i) + 1))
     unfolding both
     follows-other n = rw (owner, ne_eqb y x (λ q. n (sym q)))
 
-    module _ {c k : ℕ} (q : x ≡ y) (ec : c ≡ counter_at w i) (one : 1 ≤ counter_at w i) (ek : k ≡ kind_of w (m - 1)) where
-      pub follows-e : k ≡ 1 → eqb (c - 1) 0 ≡ both (has_e (who_of w i) (epoch_at w i) (past_at w i)) (eqb (counter_at w i) (count_b (epoch_at w i) (past_at w i) + 1))
+    module _ {c : ℕ} (q : x ≡ y) (ec : c ≡ counter_at w i) (one : 1 ≤ counter_at w i) where
+      pub follows-e : kind_of w j ≡ 1 → eqb (c - 1) 0 ≡ both (has_e (who_of w i) (epoch_at w i) (past_at w i)) (eqb (counter_at w i) (count_b (epoch_at w i) (past_at w i) + 1))
       unfolding both pick
-      follows-e z = rw (owner, eq-eqb y x (sym q), count, ← ek, eq-eqb k 1 z, ← ec)
+      follows-e z = rw (owner, eq-eqb y x (sym q), count, eq-eqb (kind_of w j) 1 z, ← ec)
           (case (eqb (c - 1) 0) (λ r. rw r (sym (eq-eqb c (0 + 1) (omega tests)))) (λ r. rw r (sym (ne_eqb c (0 + 1) (λ d. eqb-false (c - 1) 0 r (omega arith))))))
 
-      pub follows-b : {d : ℕ} → (k ≡ 1 → ⊥) → d ≡ counter_at w (m - 1) → eqb d (c - 1) ≡ both (has_e (who_of w i) (epoch_at w i) (past_at w i)) (eqb (counter_at w i) (count_b (epoch_at w i) (past_at w i) + 1))
+      pub follows-b : {d : ℕ} → (kind_of w j ≡ 1 → ⊥) → d ≡ counter_at w j → eqb d (c - 1) ≡ both (has_e (who_of w i) (epoch_at w i) (past_at w i)) (eqb (counter_at w i) (count_b (epoch_at w i) (past_at w i) + 1))
       unfolding both pick
-      follows-b {d} z ed = rw (owner, eq-eqb y x (sym q), count, ← ek, ne_eqb k 1 z, ← ec, ← ed)
+      follows-b {d} z ed = rw (owner, eq-eqb y x (sym q), count, ne_eqb (kind_of w j) 1 z, ← ec, ← ed)
           (case (eqb d (c - 1)) (λ r. rw r (sym (eq-eqb c (d + 1) (omega tests)))) (λ r. rw r (sym (ne_eqb c (d + 1) (λ e. eqb-false d (c - 1) r (omega arith))))))
 
 -- ---- a V inside the longest
 
 module _ (w : List ℕ) (at i x : ℕ) (s : State) {b : Bool} (e : b ≡ same (entry_at w i) (entry_at w at)) where
-  pub inside_on : b ≡ true → ◌≡◌ {A = Told} (record { rule = 0; state = record { counts = set s.counts x (get_or s.counts x 0 + 1); len = s.len; top = s.top; seen = s.seen } }) (inside_of w at i x s)
+  pub inside_on : b ≡ true → ◌≡◌ {A = Result State Rule} (Ok (record { counts = set s.counts x (get_or s.counts x 0 + 1); len = s.len; top = s.top; seen = s.seen })) (inside_of w at i x s)
   unfolding inside_of pick
   inside_on z = rw (← e, z)
 
-  module _ {k : ℕ} (z : b ≡ false) (src : Source w i k) where
-    pub inside-four : k < i → ◌≡◌ {A = Told} (record { rule = 4; state = s }) (inside_of w at i x s)
+  module _ (z : b ≡ false) where
+    pub inside-four : any_b (entry_at w i) (past_at w i) ≡ true → ◌≡◌ {A = Result State Rule} (Err OneBegins) (inside_of w at i x s)
     unfolding inside_of pick
-    inside-four l = rw (← e, z, ← src.is, lt-ltb k i l)
+    inside-four l = rw (← e, z, l)
 
-    pub inside-three : i ≤ k → ◌≡◌ {A = Told} (record { rule = 3; state = s }) (inside_of w at i x s)
+    pub inside-three : any_b (entry_at w i) (past_at w i) ≡ false → ◌≡◌ {A = Result State Rule} (Err EarlierB) (inside_of w at i x s)
     unfolding inside_of pick
-    inside-three l = rw (← e, z, ← src.is, le-ltb k i l)
+    inside-three l = rw (← e, z, l)
 
 -- ---- the step
 
 module _ (n : ℕ) (w sp : List ℕ) (i : ℕ) (s : State) (H : Holds n (past_at w i) sp i s) (g : sound n (rec_at w i) ≡ true) where
-  stop : (k : ℕ) → k ≡ broken n (rec_at w i ∷ past_at w i) → (k ≡ 0 → ⊥) → Stepped n w sp i (record { rule = k; state = s }) sp
-  stop k e h = record { rule = e; goes = λ z. absurd (h z); space = λ z. absurd (h z); stays = λ _. refl }
+  stop : (k : Rule) → broken n (rec_at w i ∷ past_at w i) ≡ number k → Stepped n w sp i (Err k) sp
+  stop k e = record { rule = sym e; stays = refl }
 
   laid_same : laid (grown (past_at w i)) sp ≡ sp
   unfolding laid
@@ -92,12 +92,11 @@ module _ (n : ℕ) (w sp : List ℕ) (i : ℕ) (s : State) (H : Holds n (past_at
       ap (λ (m : List ℕ). m ++ drop (length (grown (past_at w i))) sp) (sym H.laid) ∙ ap (λ (k : ℕ). take s.len sp ++ drop k sp) (sym H.len) ∙ take-append-drop s.len sp
 
   on : (r : Rec) (t : State) → rec_at w i ≡ r → broken n (r ∷ past_at w i) ≡ 0 → grown (r ∷ past_at w i) ≡ grown (past_at w i) → Holds n (r ∷ past_at w i) sp (suc i) t
-      → Stepped n w sp i (record { rule = 0; state = t }) sp
+      → Stepped n w sp i (Ok t) sp
   on r t q z u h = record {
     rule = sym (ap (λ (x : Rec). broken n (x ∷ past_at w i)) q ∙ z);
-    goes = λ _. subst (λ (x : Rec). Holds n (x ∷ past_at w i) sp (suc i) t) (sym q) h;
-    space = λ _. sym (ap (λ (x : Rec). laid (grown (x ∷ past_at w i)) sp) q ∙ ap (λ (m : List ℕ). laid m sp) u ∙ laid_same);
-    stays = λ f. absurd (f refl);
+    goes = subst (λ (x : Rec). Holds n (x ∷ past_at w i) sp (suc i) t) (sym q) h;
+    space = sym (ap (λ (x : Rec). laid (grown (x ∷ past_at w i)) sp) q ∙ ap (λ (m : List ℕ). laid m sp) u ∙ laid_same);
   }
 
   sound-at : (r : Rec) → rec_at w i ≡ r → sound n r ≡ true
@@ -105,10 +104,10 @@ module _ (n : ℕ) (w sp : List ℕ) (i : ℕ) (s : State) (H : Holds n (past_at
 
   -- ---- X
 
-  pub x-on : {k : ℕ} → k ≡ kind_of w i → (k ≡ 1 → ⊥) → (k ≡ 2 → ⊥) → (k ≡ 3 → ⊥) → Stepped n w sp i (record { rule = 0; state = s }) sp
-  x-on q a b d =
+  pub x-on : (kind_of w i ≡ 1 → ⊥) → (kind_of w i ≡ 2 → ⊥) → (kind_of w i ≡ 3 → ⊥) → Stepped n w sp i (Ok s) sp
+  x-on a b d =
       let z = judge-x n (past_at w i) H.inv (who_of w i) (epoch_at w i) in
-      on (X (who_of w i) (epoch_at w i)) s (rec-x w i (λ e. a (q ∙ e)) (λ e. b (q ∙ e)) (λ e. d (q ∙ e))) z refl
+      on (X (who_of w i) (epoch_at w i)) s (rec-x w i a b d) z refl
       (record { inv = step-inv n (past_at w i) H.inv (X (who_of w i) (epoch_at w i)) refl z; laid = H.laid; len = H.len; size = H.size; cnt = H.cnt; top = H.top; seen = omega (arith, H.seen) })
 
   -- ---- E
@@ -117,10 +116,10 @@ module _ (n : ℕ) (w sp : List ℕ) (i : ℕ) (s : State) (H : Holds n (past_at
     e-rule : broken n (rec_at w i ∷ past_at w i) ≡ pick (any_e (epoch_at w i) (past_at w i)) 1 0
     e-rule = ap (λ (x : Rec). broken n (x ∷ past_at w i)) (rec-e w i q) ∙ judge-e n (past_at w i) H.inv (who_of w i) (epoch_at w i) (sound-at (E (who_of w i) (epoch_at w i)) (rec-e w i q))
 
-    pub e-new : {m : ℕ} → m ≡ latest_of w (epoch_at w i) i → m ≡ 0 → Stepped n w sp i (record { rule = 0; state = s }) sp
+    pub e-new : 0 ≡ latest_of w (epoch_at w i) i → Stepped n w sp i (Ok s) sp
     unfolding pick
-    e-new u v =
-        let f : any_e (epoch_at w i) (past_at w i) ≡ false = (near w (epoch_at w i) i H.inv.kept.k1 H.inv.kept.k2).no (sym u ∙ v) in
+    e-new u =
+        let f : any_e (epoch_at w i) (past_at w i) ≡ false = (near w (epoch_at w i) i H.inv.kept.k1 H.inv.kept.k2).no (sym u) in
         let z : broken n (E (who_of w i) (epoch_at w i) ∷ past_at w i) ≡ 0 = sym (ap (λ (x : Rec). broken n (x ∷ past_at w i)) (rec-e w i q)) ∙ e-rule ∙ rw f in
         on (E (who_of w i) (epoch_at w i)) s (rec-e w i q) z refl
         (record {
@@ -133,11 +132,9 @@ module _ (n : ℕ) (w sp : List ℕ) (i : ℕ) (s : State) (H : Holds n (past_at
           seen = omega (arith, H.seen);
         })
 
-    pub e-old : {m : ℕ} → m ≡ latest_of w (epoch_at w i) i → (m ≡ 0 → ⊥) → Stepped n w sp i (record { rule = 1; state = s }) sp
+    pub e-old : {j : ℕ} → suc j ≡ latest_of w (epoch_at w i) i → Stepped n w sp i (Err OneE) sp
     unfolding pick
-    e-old {m} u z =
-        let l : suc (m - 1) ≡ m = omega arith in
-        stop 1 (sym (e-rule ∙ rw ((near w (epoch_at w i) i H.inv.kept.k1 H.inv.kept.k2).at (m - 1) (sym u ∙ sym l)).any)) (λ d. omega arith)
+    e-old {j} u = stop OneE (e-rule ∙ rw ((near w (epoch_at w i) i H.inv.kept.k1 H.inv.kept.k2).at j (sym u)).any)
 
   -- ---- the longest
 
@@ -170,8 +167,8 @@ module _ (n : ℕ) (w sp : List ℕ) (i : ℕ) (s : State) (H : Holds n (past_at
     b-told : broken n (rec_at w i ∷ past_at w i) ≡ broken n (B (who_of w i) (entry_at w i) ∷ past_at w i)
     b-told = ap (λ (x : Rec). broken n (x ∷ past_at w i)) (rec-b w i q)
 
-    pub b-two : b ≡ false → Stepped n w sp i (record { rule = 2; state = s }) sp
-    b-two z = stop 2 (sym (b-told ∙ b-rule ∙ rw z)) (λ d. omega arith)
+    pub b-two : b ≡ false → Stepped n w sp i (Err CountersRun) sp
+    b-two z = stop CountersRun (b-told ∙ b-rule ∙ rw z)
 
     module _ {x : ℕ} {l : Bool} (yes-b : b ≡ true) (ex : x ≡ who_of w i) (x7 : x < 7)
         (el : l ≡ both (ltb (get_or s.counts x 0) s.len) (ltb (epoch_at w (get_or sp (get_or s.counts x 0) 0)) (epoch_at w i))) where
@@ -187,12 +184,13 @@ module _ (n : ℕ) (w sp : List ℕ) (i : ℕ) (s : State) (H : Holds n (past_at
       b-zero : l ≡ false → broken n (B (who_of w i) (entry_at w i) ∷ past_at w i) ≡ 0
       b-zero z = b-rule ∙ rw (five, z, yes-b)
 
-      pub b-five : l ≡ true → Stepped n w sp i (record { rule = 5; state = s }) sp
-      b-five z = stop 5 (sym (b-told ∙ b-rule ∙ rw (five, z, yes-b))) (λ d. omega arith)
+      pub b-five : l ≡ true → Stepped n w sp i (Err EarlierEpochs) sp
+      b-five z = stop EarlierEpochs (b-told ∙ b-rule ∙ rw (five, z, yes-b))
 
-      b-on : (h : ℕ) → h ≡ pick (leb s.top (epoch_at w i)) (epoch_at w i) s.top → l ≡ false
-          → Stepped n w sp i (record { rule = 0; state = record { counts = s.counts; len = s.len; top = h; seen = s.seen } }) sp
-      b-on h e z =
+      pub b-on : {h e : ℕ} → l ≡ false → e ≡ epoch_at w i → h ≡ max s.top e
+          → Stepped n w sp i (Ok (record { counts = s.counts; len = s.len; top = h; seen = s.seen })) sp
+      unfolding pick
+      b-on {h} {e} z ee eh =
           on (B (who_of w i) (entry_at w i)) (record { counts = s.counts; len = s.len; top = h; seen = s.seen }) (rec-b w i q) (b-zero z) refl
           (record {
             inv = step-inv n (past_at w i) H.inv (B (who_of w i) (entry_at w i)) b-sound (b-zero z);
@@ -200,17 +198,9 @@ module _ (n : ℕ) (w sp : List ℕ) (i : ℕ) (s : State) (H : Holds n (past_at
             len = H.len;
             size = H.size;
             cnt = H.cnt;
-            top = e ∙ ap (λ (k : ℕ). pick (leb k (epoch_at w i)) (epoch_at w i) k) H.top;
+            top = eh ∙ ap (max s.top) ee ∙ case (leb s.top (epoch_at w i)) (λ p. rw (← H.top, p) (omega tests)) (λ p. rw (← H.top, p) (omega tests));
             seen = omega (arith, H.seen);
           })
-
-      pub b-low : {e : ℕ} → l ≡ false → e ≡ epoch_at w i → e < s.top → Stepped n w sp i (record { rule = 0; state = s }) sp
-      unfolding pick
-      b-low z ee h = b-on s.top (rw (lt-leb s.top (epoch_at w i) (omega arith))) z
-
-      pub b-top : {e : ℕ} → l ≡ false → e ≡ epoch_at w i → s.top ≤ e → Stepped n w sp i (record { rule = 0; state = record { counts = s.counts; len = s.len; top = e; seen = s.seen } }) sp
-      unfolding pick
-      b-top {e} z ee h = b-on e (rw (le-leb s.top (epoch_at w i) (omega arith)) ee) z
 
   -- ---- V
 
@@ -269,22 +259,18 @@ module _ (n : ℕ) (w sp : List ℕ) (i : ℕ) (s : State) (H : Holds n (past_at
               ∙ ap (less (get_or (st_of (past_at w i)).seq k none)) d
               ∙ H.inv.seqs.rise k (get_or s.counts x 0) (omega arith) (omega (arith, seq-len))
 
-      in_three : same (entry_at w i) (entry_at w (get_or sp (get_or s.counts x 0) 0)) ≡ false → pick (any_b (entry_at w i) (past_at w i)) 4 3 ≡ broken n («V» (who_of w i) (entry_at w i) ∷ past_at w i)
+      in_three : same (entry_at w i) (entry_at w (get_or sp (get_or s.counts x 0) 0)) ≡ false → broken n («V» (who_of w i) (entry_at w i) ∷ past_at w i) ≡ number (pick (any_b (entry_at w i) (past_at w i)) OneBegins EarlierB)
       unfolding either pick
       in_three e =
           let y : same (entry_at w i) (get_or (st_of (past_at w i)).seq (get_or s.counts x 0) none) ≡ false = rw (seq-at (get_or s.counts x 0) low) e in
-          sym (v-rule ∙ rw (lt-leb s.len (get_or s.counts x 0) low, y) (case (any_b (entry_at w i) (past_at w i)) (λ u. rw u) (λ u. rw u)))
+          v-rule ∙ rw (lt-leb s.len (get_or s.counts x 0) low, y) (case (any_b (entry_at w i) (past_at w i)) (λ u. rw u) (λ u. rw u))
 
-      pub v-inside : {r : Told} → r ≡ inside_of w (get_or sp (get_or s.counts x 0) 0) i x s → Stepped n w sp i r sp
+      pub v-inside : {r : Result State Rule} → r ≡ inside_of w (get_or sp (get_or s.counts x 0) 0) i x s → Stepped n w sp i r sp
       unfolding inside_of pick
-      v-inside {r} e = subst (λ (y : Told). Stepped n w sp i y sp) (sym e) (go (same (entry_at w i) (entry_at w (get_or sp (get_or s.counts x 0) 0))) refl)
+      v-inside {r} e = subst (λ (y : Result State Rule). Stepped n w sp i y sp) (sym e) (go (same (entry_at w i) (entry_at w (get_or sp (get_or s.counts x 0) 0))) refl)
         where
-          some : (b : Bool) → ◌≡◌ {A = ℕ} (pick b 4 3) 0 → ⊥
-          some true z = omega arith
-          some false z = omega arith
-
           go : (b : Bool) → same (entry_at w i) (entry_at w (get_or sp (get_or s.counts x 0) 0)) ≡ b
-              → Stepped n w sp i (pick b (record { rule = 0; state = record { counts = set s.counts x (get_or s.counts x 0 + 1); len = s.len; top = s.top; seen = s.seen } }) (record { rule = pick (any_b (entry_at w i) (past_at w i)) 4 3; state = s })) sp
+              → Stepped n w sp i (pick b (Ok (record { counts = set s.counts x (get_or s.counts x 0 + 1); len = s.len; top = s.top; seen = s.seen })) (Err (pick (any_b (entry_at w i) (past_at w i)) OneBegins EarlierB))) sp
           go true z =
               on («V» (who_of w i) (entry_at w i)) (record { counts = set s.counts x (get_or s.counts x 0 + 1); len = s.len; top = s.top; seen = s.seen }) (rec-v w i q) (in-zero z) in-grown
               (record {
@@ -296,20 +282,20 @@ module _ (n : ℕ) (w sp : List ℕ) (i : ℕ) (s : State) (H : Holds n (past_at
                 top = H.top;
                 seen = omega (arith, H.seen);
               })
-          go false z = stop (pick (any_b (entry_at w i) (past_at w i)) 4 3) (in_three z ∙ sym v-told) (some (any_b (entry_at w i) (past_at w i)))
+          go false z = stop (pick (any_b (entry_at w i) (past_at w i)) OneBegins EarlierB) (v-told ∙ in_three z)
 
     -- one that makes the longest longer
-    module _ (full : s.len ≤ get_or s.counts x 0) {k : ℕ} (src : Source w i k) where
+    module _ (full : s.len ≤ get_or s.counts x 0) where
       whole : get_or s.counts x 0 ≡ s.len
       whole = omega (arith, H.inv.seqs.len (who_of w i), counted ex x7, seq-len)
 
-      pub v-three : k ≡ i → Stepped n w sp i (record { rule = 3; state = s }) sp
-      v-three z = stop 3 (sym (v-told ∙ v-rule ∙ rw (sym src.is ∙ le-ltb k i (omega arith)))) (λ d. omega arith)
+      pub v-three : any_b (entry_at w i) (past_at w i) ≡ false → Stepped n w sp i (Err EarlierB) sp
+      v-three z = stop EarlierB (v-told ∙ v-rule ∙ rw z)
 
-      top_of : (k ≡ i → ⊥) → broken n («V» (who_of w i) (entry_at w i) ∷ past_at w i) ≡ late_of w sp i s.len s.top
+      top_of : any_b (entry_at w i) (past_at w i) ≡ true → broken n («V» (who_of w i) (entry_at w i) ∷ past_at w i) ≡ late_of w sp i s.len s.top
       unfolding late_of either both pick
-      top_of nz =
-          v-rule ∙ rw (sym src.is ∙ lt-ltb k i (omega (arith, src.low)), le-leb s.len (get_or s.counts x 0) full, le-ltb (get_or s.counts x 0) s.len full, seq-is)
+      top_of b =
+          v-rule ∙ rw (b, le-leb s.len (get_or s.counts x 0) full, le-ltb (get_or s.counts x 0) s.len full, seq-is)
           (mix (less ((st_of (past_at w i)).last (who_of w i)) (entry_at w i)) (pick (eqb s.len 0) true (less (entry_at w (get_or sp (s.len - 1) 0)) (entry_at w i)))
           (leb s.top (epoch_at w i)) (mem (entry_at w i) (st_of (past_at w i)).seq) (up s.len refl))
         where
@@ -329,9 +315,9 @@ module _ (n : ℕ) (w sp : List ℕ) (i : ℕ) (s : State) (H : Holds n (past_at
           mix true false d m e = clash refl e
           mix false true d m e = clash e refl
 
-      module _ {v : ℕ} (nz : k ≡ i → ⊥) (ev : v ≡ late_of w sp i s.len s.top) where
-        pub v-late : (v ≡ 0 → ⊥) → Stepped n w sp i (record { rule = v; state = s }) sp
-        v-late z = stop v (ev ∙ sym (v-told ∙ top_of nz)) z
+      module _ {k : ℕ} (src : Source w i (Some k)) where
+        pub v-late : {r : Rule} → number r ≡ late_of w sp i s.len s.top → Stepped n w sp i (Err r) sp
+        v-late {r} ev = stop r (v-told ∙ top_of src.1 ∙ sym ev)
 
         long-grown : grown («V» (who_of w i) (entry_at w i) ∷ past_at w i) ≡ grown (past_at w i) ++ (i ∷ [])
         unfolding pick
@@ -343,10 +329,10 @@ module _ (n : ℕ) (w sp : List ℕ) (i : ℕ) (s : State) (H : Holds n (past_at
             let y : length (grown (past_at w i) ++ (i ∷ [])) ≡ suc s.len = omega (arith, length-append (grown (past_at w i)) (i ∷ []), H.len) in
             set_split sp s.len i (omega arith) ∙ rw (y, append_assoc (grown (past_at w i)) (i ∷ []) (drop (suc s.len) sp), H.laid)
 
-        pub v-on : i < length sp → s.len ≤ i → v ≡ 0
-            → Stepped n w sp i (record { rule = 0; state = record { counts = set s.counts x (get_or s.counts x 0 + 1); len = s.len + 1; top = s.top; seen = k } }) (set sp s.len i)
+        pub v-on : i < length sp → s.len ≤ i → 0 ≡ late_of w sp i s.len s.top
+            → Stepped n w sp i (Ok (record { counts = set s.counts x (get_or s.counts x 0 + 1); len = s.len + 1; top = s.top; seen = k })) (set sp s.len i)
         v-on room le z =
-            let b : broken n («V» (who_of w i) (entry_at w i) ∷ past_at w i) ≡ 0 = top_of nz ∙ sym ev ∙ z in
+            let b : broken n («V» (who_of w i) (entry_at w i) ∷ past_at w i) ≡ 0 = top_of src.1 ∙ sym z in
             let h : Holds n («V» (who_of w i) (entry_at w i) ∷ past_at w i) (set sp s.len i) (suc i) (record { counts = set s.counts x (get_or s.counts x 0 + 1); len = s.len + 1; top = s.top; seen = k })
             = record {
               inv = step-inv n (past_at w i) H.inv («V» (who_of w i) (entry_at w i)) v-sound b;
@@ -355,11 +341,10 @@ module _ (n : ℕ) (w sp : List ℕ) (i : ℕ) (s : State) (H : Holds n (past_at
               size = length-set s.counts x (get_or s.counts x 0 + 1) ∙ H.size;
               cnt = v-cnt;
               top = H.top;
-              seen = omega (arith, src.low);
+              seen = omega (arith, src.0);
             } in
             record {
               rule = sym (v-told ∙ b);
-              goes = λ _. subst (λ (r : Rec). Holds n (r ∷ past_at w i) (set sp s.len i) (suc i) (record { counts = set s.counts x (get_or s.counts x 0 + 1); len = s.len + 1; top = s.top; seen = k })) (sym (rec-v w i q)) h;
-              space = λ _. long-laid room le ∙ sym (ap (λ (r : Rec). laid (grown (r ∷ past_at w i)) sp) (rec-v w i q) ∙ ap (λ (m : List ℕ). laid m sp) long-grown);
-              stays = λ f. absurd (f refl);
+              goes = subst (λ (r : Rec). Holds n (r ∷ past_at w i) (set sp s.len i) (suc i) (record { counts = set s.counts x (get_or s.counts x 0 + 1); len = s.len + 1; top = s.top; seen = k })) (sym (rec-v w i q)) h;
+              space = long-laid room le ∙ sym (ap (λ (r : Rec). laid (grown (r ∷ past_at w i)) sp) (rec-v w i q) ∙ ap (λ (m : List ℕ). laid m sp) long-grown);
             }

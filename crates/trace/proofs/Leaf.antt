@@ -1,75 +1,58 @@
 -- One law for each answer of the functions that read records and look back.
-use Prim.Native.Nat.{ℕ, zero, suc, ◌+◌, ◌-◌, ◌≤◌, ◌<◌}
-use mathlib.Core.Path.{◌≡◌, sym, ap, ◌∙◌}
-use mathlib.Core.Bool.{Bool, true, false}
+use Prim.Native.Nat.{ℕ, zero, suc, ◌-◌, ◌≤◌, ◌<◌}
+use mathlib.Core.Path.{◌≡◌, refl, ◌∙◌}
+use mathlib.Core.Bool.{Bool, true, false, ◌&&◌}
 use mathlib.Core.List.{List}
 use native.Mathlib.Omega.{arith}
 use lib.Dec.{eqb, ltb}
-use lib.ListN.{get_or}
-use borrow.Author.Tests.{eq-eqb, ne_eqb, lt-ltb, le-ltb}
+use borrow.Author.Tests.{ltb-true, eqb-false}
+use lib.ListN.{length, take, get_or}
+use lib.Seq.{length-take-le, get_or-take, take-take}
+use Rattle.std.proofs.lemmas.List.{get_or_default}
+use Rattle.std.specs.Prelude.{Some}
+use Rattle.std.specs.Ordering.{partial_lt, partial_ordering_then, nat_cmp}
+use Rattle.base.proofs.Choice.{case}
 use Rattle.base.specs.Choice.{pick, both, either}
 use Rattle.base.specs.Record.{Entry, same}
 use Rattle.trace.specs.Rules.{less}
-use Rattle.trace.specs.Words.{Within, kind_of, entry_at, of_epoch, latest_of, submits, seek_of}
+use Rattle.trace.specs.Step.{lacks_of, rises_of, late_of}
+use Rattle.trace.specs.Words.{Within, of_epoch, latest_of}
 
--- ---- transactions compared
+-- ---- identifiers compared
 
-module _ (t u : Entry) {a b : ℕ} (ea : a ≡ t.ep) (eb : b ≡ u.ep) where
-  pub same-ep : (a ≡ b → ⊥) → false ≡ same t u
-  unfolding same both
-  same-ep n = rw (← ea, ← eb, ne_eqb a b n)
+-- `<` of pairs of numbers, and `less`
+pub less-pair : (t u : Entry) {a b c d : ℕ} → a ≡ t.ep → c ≡ t.ct → b ≡ u.ep → d ≡ u.ct
+    → partial_lt {X = ℕ × ℕ} (λ x y. partial_ordering_then (Some (nat_cmp x.0 y.0)) (Some (nat_cmp x.1 y.1))) (a, c) (b, d) ≡ less t u
+unfolding less either both
+less-pair t u {a} {b} {c} {d} ea ec eb ed = rw (← ea, ← ec, ← eb, ← ed) (case (ltb a b) (λ p. rw p) (λ p. case (eqb a b) (λ q. case (ltb c d) (λ r. rw (p, q, r)) (λ r. case (eqb c d) (λ v. rw (p, q, r, v)) (λ v. rw (p, q, r, v)))) (λ q. rw (p, q))))
 
-  pub same-ct : {c d : ℕ} → a ≡ b → c ≡ t.ct → d ≡ u.ct → (c ≡ d → ⊥) → false ≡ same t u
-  unfolding same both
-  same-ct {c} {d} e ec ed n = rw (← ea, ← eb, ← ec, ← ed, eq-eqb a b e, ne_eqb c d n)
-
-  pub same-vl : {c d f g : ℕ} → a ≡ b → c ≡ t.ct → d ≡ u.ct → c ≡ d → f ≡ t.vl → g ≡ u.vl → eqb f g ≡ same t u
-  unfolding same both
-  same-vl {c} {d} e ec ed m ef eg = rw (← ea, ← eb, ← ec, ← ed, ← ef, ← eg, eq-eqb a b e, eq-eqb c d m)
-
-  pub less-lt : a < b → true ≡ less t u
-  unfolding less either
-  less-lt k = rw (← ea, ← eb, lt-ltb a b k)
-
-  pub less-gt : b ≤ a → (a ≡ b → ⊥) → false ≡ less t u
-  unfolding less either both
-  less-gt k n = rw (← ea, ← eb, le-ltb a b k, ne_eqb a b n)
-
-  pub less-eq : {c d : ℕ} → b ≤ a → a ≡ b → c ≡ t.ct → d ≡ u.ct → ltb c d ≡ less t u
-  unfolding less either both
-  less-eq {c} {d} k e ec ed = rw (← ea, ← eb, ← ec, ← ed, le-ltb a b k, eq-eqb a b e)
-
--- ---- looking back
-
-module _ (w : List ℕ) (i j : ℕ) {k : ℕ} (q : k ≡ kind_of w j) where
-  pub submits-no : (k ≡ 2 → ⊥) → false ≡ submits w i j
-  unfolding submits both
-  submits-no n = rw (← q, ne_eqb k 2 n)
-
-  pub submits-yes : {b : Bool} → k ≡ 2 → b ≡ same (entry_at w i) (entry_at w j) → b ≡ submits w i j
-  unfolding submits both
-  submits-yes {b} d e = rw (← q, ← e, eq-eqb k 2 d)
-
-module _ (w : List ℕ) (i : ℕ) {x : ℕ} where
-  pub seek_stop : (j : ℕ) {b : Bool} → j < i → b ≡ submits w i j → b ≡ true → seek_of w i j (i - j) ≡ x → j ≡ x
-  unfolding seek_of pick
-  seek_stop j k p q h = let z : i - j ≡ suc (i - (j + 1)) = omega arith in rw (sym p ∙ q) at (rw z at h)
-
-  pub seek-on : (j : ℕ) {b : Bool} → j < i → b ≡ submits w i j → b ≡ false → seek_of w i j (i - j) ≡ x → seek_of w i (j + 1) (i - (j + 1)) ≡ x
-  unfolding seek_of pick
-  seek-on j k p q h =
-      let z : i - j ≡ suc (i - (j + 1)) = omega arith in
-      let y : j + 1 ≡ suc j = omega arith in
-      ap (λ (m : ℕ). seek_of w i m (i - (j + 1))) y ∙ (rw (sym p ∙ q) at (rw z at h))
-
-  pub seek-end : (j : ℕ) → i ≤ j → seek_of w i j (i - j) ≡ x → i ≡ x
-  unfolding seek_of
-  seek-end j k h = let z : i - j ≡ 0 = omega arith in rw z at h
+-- `==` of their values too, and `same`
+pub same-triple : (t u : Entry) {a b c d e f : ℕ} → a ≡ t.ep → b ≡ t.ct → c ≡ t.vl → d ≡ u.ep → e ≡ u.ct → f ≡ u.vl
+    → ((eqb a d && eqb b e) && eqb c f) ≡ same t u
+unfolding same both
+same-triple t u {a} {b} {c} {d} {e} {f} ea eb ec ed ee ef = rw (← ea, ← eb, ← ec, ← ed, ← ee, ← ef) (case (eqb a d) (λ p. rw p (case (eqb b e) (λ q. rw q refl) (λ q. rw q refl))) (λ p. rw p refl))
 
 -- ---- records that the space names
 
-pub mark-within : (w sp : List ℕ) (i k len : ℕ) → Within w i → ((j : ℕ) → j < len → get_or sp j 0 < i) → k < len → Within w (get_or sp k 0)
-mark-within w sp i k len h m l = omega (arith, m k l)
+-- an item of them
+pub place-within : (w m : List ℕ) (i k x : ℕ) → Within w i → ((j : ℕ) → j < length m → get_or m j 0 < i) → k < length m → x ≡ get_or m k x → Within w x
+place-within w m i k x h low l e =
+    let b : x ≡ get_or m k 0 = e ∙ get_or_default m k x 0 l in
+    omega (arith, low k l)
+
+-- the first len words of the space, apart from the others
+module _ (w sp : List ℕ) (i len : ℕ) (room : len ≤ length sp) where
+  pub lacks-front : (c : ℕ) → lacks_of w (take len sp) i c (length (take len sp)) ≡ lacks_of w sp i c len
+  unfolding both
+  lacks-front c = rw (length-take-le len sp room) (case (ltb c len) (λ q. rw (q, get_or-take len sp c 0 (ltb-true c len q))) (λ q. rw q))
+
+  rises-front : rises_of w (take len sp) i len ≡ rises_of w sp i len
+  unfolding pick
+  rises-front = case (eqb len 0) (λ q. rw q) (λ q. let n : len ≡ 0 → ⊥ = eqb-false len 0 q in rw (q, get_or-take len sp (len - 1) 0 (omega arith)))
+
+  pub late-front : (top : ℕ) → late_of w (take len sp) i (length (take len sp)) top ≡ late_of w sp i len top
+  unfolding late_of
+  late-front top = rw (length-take-le len sp room, take-take len len sp (omega arith), rises-front)
 
 latest-low : (w : List ℕ) (e i : ℕ) → latest_of w e i ≤ i
 unfolding latest_of pick
@@ -80,5 +63,5 @@ latest-low w e (suc i) = go (latest-low w e i) (of_epoch w i e)
     go ih true = omega arith
     go ih false = omega arith
 
-pub latest-within : (w : List ℕ) (e i m : ℕ) → m ≡ latest_of w e i → (m ≡ 0 → ⊥) → Within w i → Within w (m - 1)
-latest-within w e i m q n h = omega (arith, latest-low w e i)
+pub latest-within : (w : List ℕ) (e i j : ℕ) → suc j ≡ latest_of w e i → Within w i → Within w j
+latest-within w e i j q h = omega (arith, latest-low w e i)

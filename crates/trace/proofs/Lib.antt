@@ -13,6 +13,7 @@ pub mod Table
 pub mod Lookup
 pub mod Records
 pub mod Ruling
+pub mod Kind
 pub mod Laws
 pub mod Walk
 pub mod Only

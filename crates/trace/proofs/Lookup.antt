@@ -3,16 +3,16 @@ use Prim.Native.Nat.{ℕ, suc, ◌+◌, ◌-◌, ◌*◌, ◌/◌, ◌%◌, ◌�
 use mathlib.Core.Path.{◌≡◌, refl, sym, ap, ◌∙◌, subst}
 use mathlib.Core.Logic.{◌≢◌, ⊎_elim}
 use mathlib.Core.Bool.{Bool, true, false}
-use mathlib.Core.List.{List, ◌++◌}
+use mathlib.Core.List.{List, ◌++◌, append_assoc}
 use native.Mathlib.Omega.{arith}
 use lib.Dec.{eqb, leb}
 use lib.ListN.{length, take, drop, get_or, set, replicate, length-append, length-drop, length-replicate, length-set, get_or-replicate, get_or-append}
-use lib.Seq.{length-take-le, take-append-le, take-take, get_or-append-add, get_or-take, get_or-drop, get_or-set_same, get_or-set_other, take-set-le, drop-set-lt, ext_get_or}
-use borrow.Author.Tests.{eqb-true, eq-eqb, ne_eqb, le-leb, lt-leb}
+use lib.Seq.{paste, take_all, length-take-le, take-append-le, take-take, get_or-append-add, get_or-take, get_or-drop, get_or-set_same, get_or-set_other, take-set-le, drop-set-lt, ext_get_or}
+use borrow.Author.Tests.{eqb-true, eq-eqb, ne_eqb, leb-true, leb-false}
 use Rattle.base.specs.Choice.{pick, both, either}
 use Rattle.base.proofs.Choice.{tests, case, eq-or, le-or-lt, either_true}
 use Rattle.trace.specs.Words.{WORDS, kind_of, epoch_at, of_epoch, latest_of, laid}
-use Rattle.trace.specs.Table.{cell, cleared, ends, side, spot, spot_at, halved, key_of, Linked, Deep, Walkable, Tabled, Noted}
+use Rattle.trace.specs.Table.{cell, cleared, ends, side, spot, spot_at, halved, key_of, Linked, Deep, Walkable, Found, Tabled, Noted}
 use Rattle.trace.proofs.Table.{spot-ends, spot-none, spot_on, Ended, spot-more, ended, Alike, Came, alike-root, rest-on, alike-on, came, deep-ends, fits, noted-node, noted-root, noted-new}
 
 -- ---- the space, word by word
@@ -110,30 +110,13 @@ module _ (count : ℕ) (sp : List ℕ) (room : 4 * count ≤ length sp) where
       (le-or-lt (length g) k))
       (le-or-lt count k))
 
--- ---- the table's words become 0, one after the other
-
-module _ (count : ℕ) (sp : List ℕ) where
-  pub clear_zero : (k : ℕ) → k < length sp → ((m : ℕ) → count ≤ m → m < k → get_or sp m 0 ≡ 0) → (m : ℕ) → count ≤ m → m < k + 1 → get_or (set sp k 0) m 0 ≡ 0
-  clear_zero k l h m a b = ⊎_elim
-      (λ (q : m ≡ k). ap (λ (j : ℕ). get_or (set sp k 0) j 0) q ∙ get_or-set_same sp k 0 0 l)
-      (λ (q : m ≢ k). get_or-set_other sp k m 0 0 q ∙ h m a (omega arith))
-      (eq-or m k)
-
-  pub clear_kept : (sp₀ : List ℕ) (k : ℕ) → count ≤ k → k < 4 * count → 4 * count ≤ length sp → cleared count sp ≡ cleared count sp₀ → cleared count (set sp k 0) ≡ cleared count sp₀
-  clear_kept sp₀ k a b r e =
-      let z : count + (k - count) ≡ k = omega arith in
-      subst (λ (j : ℕ). cleared count (set sp j 0) ≡ cleared count sp) z (cleared-set count sp r (k - count) 0 (omega arith)) ∙ e
-
-  pub clear-end : (sp₀ : List ℕ) (k : ℕ) → 4 * count ≤ k → 4 * count ≤ length sp → ((m : ℕ) → count ≤ m → m < k → get_or sp m 0 ≡ 0) → cleared count sp ≡ cleared count sp₀ → sp ≡ cleared count sp₀
-  clear-end sp₀ k l r h e =
-      ext_get_or 0 sp (cleared count sp) (sym (length-cleared count sp r)) (λ m _. ⊎_elim
-      (λ (x : count ≤ m). ⊎_elim
-      (λ (y : 4 * count ≤ m). sym (cleared-high count sp r m y))
-      (λ (y : m < 4 * count). let z : count + (m - count) ≡ m = omega arith in
-      h m x (omega arith) ∙ sym (subst (λ (j : ℕ). get_or (cleared count sp) j 0 ≡ 0) z (cleared-cell count sp r (m - count) (omega arith))))
-      (le-or-lt (4 * count) m))
-      (λ (x : m < count). sym (cleared-low count sp r m x))
-      (le-or-lt count m)) ∙ e
+-- zeros written over the table
+pub cleared-paste : (count : ℕ) (sp : List ℕ) → paste sp count (replicate (3 * count) 0) (3 * count) ≡ cleared count sp
+unfolding cleared
+cleared-paste count sp =
+    let e : count + 3 * count ≡ 4 * count = omega arith in
+    let l : take {A = ℕ} (3 * count) (replicate (3 * count) 0) ≡ replicate (3 * count) 0 = take_all (3 * count) (replicate (3 * count) 0) (omega (arith, length-replicate {A = ℕ} (3 * count) 0)) in
+    rw (l, e) (append_assoc (take count sp) (replicate (3 * count) 0) (drop (4 * count) sp))
 
 -- ---- the table before the first record, and its nodes
 
@@ -202,15 +185,6 @@ walkable w sp count nodes i T low r m = record { links = wide w (cell sp count) 
 
 -- ---- a walk
 
-module _ (w : List ℕ) (f : ℕ → ℕ) (e j : ℕ) {k : ℕ} (q : k ≡ f (3 * j)) where
-  pub ends-empty : k ≡ 0 → true ≡ ends w f e j
-  unfolding ends either
-  ends-empty z = rw (← q, eq-eqb k 0 z)
-
-  pub ends_named : {a : ℕ} → k ≢ 0 → a ≡ epoch_at w (k - 1) → eqb a e ≡ ends w f e j
-  unfolding ends either
-  ends_named {a} z y = rw (← q, ne_eqb k 0 z, ← y)
-
 module _ (w : List ℕ) (f : ℕ → ℕ) (count e j rest : ℕ) {x : ℕ} {b : Bool} (L : Linked f count count) (l : j < count) (y : b ≡ ends w f e j) (h : spot w f e (count - j) j rest ≡ x) where
   more : spot w f e (count - j) j rest ≡ spot w f e (suc (count - suc j)) j rest
   more = let z : count - j ≡ suc (count - suc j) = omega arith in ap (λ (n : ℕ). spot w f e n j rest) z
@@ -235,40 +209,31 @@ module _ (w : List ℕ) (f : ℕ → ℕ) (count e j rest : ℕ) {x : ℕ} {b : 
       sym (spot-more w f e count count L (count - c) (c - suc j) c (rest / 2) lo (omega arith)) ∙ ap (λ (n : ℕ). spot w f e n c (rest / 2)) d
       ∙ sym (more ∙ spot_on w f e (count - suc j) j rest (sym y ∙ t) (λ r. z (q ∙ r)) ∙ ap (λ (m : ℕ). spot w f e (count - suc j) m (rest / 2)) (sym q)) ∙ h
 
--- how deep the walk is, and how far it can still go
-abbrev pub Far : (w : List ℕ) (f : ℕ → ℕ) (count e j rest left : ℕ) → Type 0
-Far w f count e j rest left = (D : Deep w f count) → (D.depth j + left ≡ 64) × (rest ≡ halved (D.depth j) e) × Alike w f count e D j
+-- how deep the walk is
+abbrev pub Far : (w : List ℕ) (f : ℕ → ℕ) (count e j rest depth : ℕ) → Type 0
+Far w f count e j rest depth = (D : Deep w f count) → (D.depth j ≡ depth) × (rest ≡ halved (D.depth j) e) × Alike w f count e D j
 
-pub far-start : (w : List ℕ) (f : ℕ → ℕ) (count e : ℕ) → Linked f count count → Far w f count e 0 e 64
+pub far-start : (w : List ℕ) (f : ℕ → ℕ) (count e : ℕ) → Linked f count count → Far w f count e 0 e 0
 unfolding halved
-far-start w f count e L D = (omega (arith, D.root), rw D.root, alike-root w f e count count L D)
+far-start w f count e L D = (D.root, rw D.root, alike-root w f e count count L D)
 
-module _ (w : List ℕ) (f : ℕ → ℕ) (count e j rest left : ℕ) (L : Linked f count count) (l : j < count) (F : Far w f count e j rest left) where
-  pub far-on : 0 < left → f (side j rest) ≢ 0 → Far w f count e (f (side j rest)) (rest / 2) (left - 1)
-  far-on h z D =
+module _ (w : List ℕ) (f : ℕ → ℕ) (count e j rest depth : ℕ) (L : Linked f count count) (l : j < count) (F : Far w f count e j rest depth) where
+  pub far-on : f (side j rest) ≢ 0 → Far w f count e (f (side j rest)) (rest / 2) (depth + 1)
+  far-on z D =
       let t = F D in
       (omega (arith, t.0, D.down j (rest % 2) l (omega arith) z), rest-on w f e count count L D j rest l t.1 z, alike-on w f e count count L D j rest l t.1 z t.2)
 
-  pub far-end : Deep w f count → left ≤ 0 → e < 18446744073709551616 → key_of w f j < 18446744073709551616 → true ≡ ends w f e j
+  pub far-end : Deep w f count → depth ≡ 64 → e < 18446744073709551616 → key_of w f j < 18446744073709551616 → true ≡ ends w f e j
   far-end D h a b = let t = F D in sym (deep-ends w f count e j D (omega (arith, t.0)) t.2 a b)
 
-module _ (w : List ℕ) (f : ℕ → ℕ) (count i : ℕ) {k : ℕ} (q : k ≡ kind_of w i) where
-  pub find-other : 2 < k → 0 ≡ spot_at w f count i
+module _ (w : List ℕ) (f : ℕ → ℕ) (count i : ℕ) (some : 0 < count) {b : Bool} (q : b ≡ leb (kind_of w i) 2) where
+  pub find-other : b ≡ false → Found w f count i 0
   unfolding spot_at pick
-  find-other h = rw (← q, lt-leb k 2 h)
+  find-other z = record { is = rw (← q, z); low = omega arith }
 
-  pub find-epoch : {e r : ℕ} → k ≤ 2 → e ≡ epoch_at w i → r ≡ spot w f e count 0 e → r ≡ spot_at w f count i
+  pub find-epoch : {e r : ℕ} → Linked f count count → b ≡ true → e ≡ epoch_at w i → r ≡ spot w f e count 0 e → Found w f count i r
   unfolding spot_at pick
-  find-epoch {e} {r} h y z = rw (← q, ← y, le-leb k 2 h) z
-
--- the word that is found lies in the table
-pub spot-low : (w : List ℕ) (f : ℕ → ℕ) (count i at : ℕ) → Linked f count count → 0 < count → at ≡ spot_at w f count i → at < 3 * count
-unfolding spot_at pick
-spot-low w f count i at L h q = q' (leb (kind_of w i) 2) q
-  where
-    q' : (b : Bool) → at ≡ pick b (spot w f (epoch_at w i) count 0 (epoch_at w i)) 0 → at < 3 * count
-    q' true y = let E = ended w f (epoch_at w i) count count L count 0 (epoch_at w i) h (omega arith) in omega (arith, E.is, E.most, E.low)
-    q' false y = omega arith
+  find-epoch {e} {r} L t y z = record { is = rw (← q, ← y, t) z; low = (let E = ended w f e count count L count 0 e some (omega arith) in omega (arith, E.is, E.most, E.low)) }
 
 -- ---- a record is noted
 
@@ -287,9 +252,9 @@ unfolding latest_of pick
 latest-other w i e h = rw (of_other w i e h)
 
 module _ (w sp : List ℕ) (count nodes at i : ℕ) (T : Tabled w (cell sp count) count nodes i) (low : i < count) (found : at ≡ spot_at w (cell sp count) count i)
-    (one : 1 ≤ kind_of w i) (room : 4 * count ≤ length sp) {k : ℕ} (q : k ≡ kind_of w i) where
-  pub note-other : 2 < k → Noted w count i sp nodes sp
-  note-other h = record {
+    (one : 1 ≤ kind_of w i) (room : 4 * count ≤ length sp) {b : Bool} (q : b ≡ leb (kind_of w i) 2) where
+  pub note-other : b ≡ false → Noted w count i sp nodes sp
+  note-other z = record {
     table = record {
       links = record { first = λ j l. omega (arith, T.links.first j l); after = T.links.after; below = T.links.below };
       deep = T.deep;
@@ -298,15 +263,15 @@ module _ (w sp : List ℕ) (count nodes at i : ℕ) (T : Tabled w (cell sp count
       few = λ z. omega (arith, T.few z);
       full = T.full;
       rest = T.rest;
-      says = λ e. T.says e ∙ sym (latest-other w i e (omega arith));
+      says = λ e. T.says e ∙ sym (latest-other w i e (leb-false (kind_of w i) 2 (sym q ∙ z)));
     };
     kept = refl;
   }
 
-  module _ (h : k ≤ 2) where
+  module _ (h : b ≡ true) (inside : at < 3 * count) where
     here : spot w (cell sp count) (epoch_at w i) count 0 (epoch_at w i) ≡ at
     unfolding spot_at pick
-    here = sym (rw (← q, le-leb k 2 h) at found)
+    here = sym (rw (← q, h) at found)
 
     place : Ended w (cell sp count) (epoch_at w i) nodes at
     place = subst (Ended w (cell sp count) (epoch_at w i) nodes) here
@@ -318,11 +283,8 @@ module _ (w sp : List ℕ) (count nodes at i : ℕ) (T : Tabled w (cell sp count
         (came w (cell sp count) (epoch_at w i) nodes i T.links T.deep count 0 (epoch_at w i) T.one (omega (arith, fits w (cell sp count) (cell sp count) count nodes i T low)) (rw T.deep.root)
         (alike-root w (cell sp count) (epoch_at w i) nodes i T.links T.deep))
 
-    pub inside : at < 3 * count
-    inside = omega (arith, place.is, place.most, place.low, fits w (cell sp count) (cell sp count) count nodes i T low)
-
     kind : (e : ℕ) → of_epoch w i e ≡ eqb (epoch_at w i) e
-    kind e = of-kind w i e one (omega arith)
+    kind e = of-kind w i e one (leb-true (kind_of w i) 2 (sym q ∙ h))
 
     module _ (z : at % 3 ≡ 0) where
       is : 3 * place.node ≡ at

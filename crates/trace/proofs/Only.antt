@@ -6,24 +6,43 @@ use mathlib.Core.Logic.{◌≢◌}
 use mathlib.Core.Bool.{Bool, true, false}
 use mathlib.Core.List.{List, []}
 use native.Mathlib.Omega.{arith}
-use lib.Dec.{leb}
+use lib.Dec.{eqb, leb}
 use lib.ListN.{length}
 use Rattle.base.specs.Choice.{pick, both}
 use Rattle.trace.specs.Rules.{Answer, keeps, breaks, refuses, fit, answer}
 use Rattle.trace.specs.Held.{Kept}
 use Rattle.trace.specs.Words.{recs_from, recs_of, past_at, count_of, readable}
 use Rattle.trace.specs.Meaning.{meant, refusal, verdict, left, Checked}
+use Rattle.trace.specs.Number.{number}
+use Rattle.trace.specs.declared.Rule.{Rule}
+use Rattle.trace.specs.declared.Rule.TheVariants.{OneE, CountersRun, EarlierB, OneBegins, EarlierEpochs, VsRise}
 use Rattle.trace.specs.declared.Verdict.{Verdict}
 use Rattle.trace.specs.declared.Verdict.TheVariants.{Keeps, Breaks, Refused}
 use Rattle.trace.proofs.Says.{past}
 use Rattle.trace.proofs.Whole.{Broke, keeps-all, breaks-first}
+
+-- the rule of a number
+rule_at : ℕ → Rule
+rule_at k = pick (eqb k 1) OneE (pick (eqb k 2) CountersRun (pick (eqb k 3) EarlierB (pick (eqb k 4) OneBegins (pick (eqb k 5) EarlierEpochs VsRise))))
+
+rule-back : (r : Rule) → rule_at (number r) ≡ r
+unfolding rule_at pick
+rule-back OneE = refl
+rule-back CountersRun = refl
+rule-back EarlierB = refl
+rule-back OneBegins = refl
+rule-back EarlierEpochs = refl
+rule-back VsRise = refl
+
+number-one : (r r' : Rule) → number r ≡ number r' → r ≡ r'
+number-one r r' e = sym (rule-back r) ∙ ap rule_at e ∙ rule-back r'
 
 meant-one : (a b : Verdict) → meant a ≡ meant b → a ≡ b
 meant-one Keeps Keeps e = refl
 meant-one Keeps (Breaks k r) e = let z : ◌≡◌ {A = ℕ} 0 1 = cc in absurd (omega arith)
 meant-one Keeps Refused e = let z : ◌≡◌ {A = ℕ} 0 1 = cc in absurd (omega arith)
 meant-one (Breaks k r) Keeps e = let z : ◌≡◌ {A = ℕ} 0 1 = cc in absurd (omega arith)
-meant-one (Breaks k r) (Breaks k' r') e = cc
+meant-one (Breaks k r) (Breaks k' r') e = let d : number r ≡ number r' = cc in let q : r ≡ r' = number-one r r' d in cc
 meant-one (Breaks k r) Refused e = let z : ◌≡◌ {A = ℕ} 0 1 = cc in absurd (omega arith)
 meant-one Refused Keeps e = let z : ◌≡◌ {A = ℕ} 0 1 = cc in absurd (omega arith)
 meant-one Refused (Breaks k r) e = let z : ◌≡◌ {A = ℕ} 0 1 = cc in absurd (omega arith)
@@ -47,8 +66,8 @@ module _ (n : ℕ) (w sp : List ℕ) where
   pub yes-keeps : {a : List ℕ} → Checked n w sp Keeps a → (fit n (recs_of w) ≡ true) × Kept n (past [] (recs_of w))
   yes-keeps x = keeps-all n (recs_of w) (answered keeps (sym x.says) (λ e. let z : ◌≡◌ {A = ℕ} 0 1 = cc in omega arith))
 
-  pub named-first : (k r : ℕ) {a : List ℕ} → Checked n w sp (Breaks k r) a → Broke n (recs_of w) k r
-  named-first k r x = breaks-first n (recs_of w) k r (answered (breaks k r) (sym x.says) (λ e. let z : ◌≡◌ {A = ℕ} 0 1 = cc in omega arith))
+  pub named-first : (k : ℕ) (r : Rule) {a : List ℕ} → Checked n w sp (Breaks k r) a → Broke n (recs_of w) k (number r)
+  named-first k r x = breaks-first n (recs_of w) k (number r) (answered (breaks k (number r)) (sym x.says) (λ e. let z : ◌≡◌ {A = ℕ} 0 1 = cc in omega arith))
 
 -- the records before record i + k: those before record i, and k more
 pub past_of : (w : List ℕ) (k i : ℕ) → past (past_at w i) (recs_from w i k) ≡ past_at w (i + k)

@@ -1,21 +1,26 @@
 -- Records read from words: their kinds, whether they are sound, and the B of a transaction.
 use Prim.Native.Nat.{ℕ, zero, suc, ◌+◌, ◌-◌, ◌≤◌, ◌<◌}
 use mathlib.Core.Path.{◌≡◌, refl, sym, ap, ◌∙◌, subst}
+use mathlib.Core.Logic.{◌⊎◌, ⊎_elim}
 use mathlib.Core.Bool.{Bool, true, false, not}
-use mathlib.Core.List.{List, [], ◌∷◌, map, map-append}
+use mathlib.Core.List.{List, [], ◌∷◌, ◌++◌, map}
 use native.Mathlib.Omega.{arith}
 use lib.Dec.{eqb, leb, ltb}
-use lib.ListN.{length, take, get_or}
-use lib.Seq.{take-suc}
-use borrow.Author.Tests.{eqb-true, eqb-false, eq-eqb, ne_eqb, le-leb, lt-leb, lt-ltb, le-ltb, ltb-true}
+use lib.ListN.{length, take, get_or, length-append, get_or-append}
+use lib.Seq.{get_or-append-add}
+use Rattle.std.proofs.lemmas.List.{get_or_default}
+use Rattle.std.proofs.lemmas.List.FromFn.{length-range_with_len, get_or-range_with_len}
+use Rattle.std.specs.Prelude.{Option, Some, None}
+use Rattle.std.specs.Option.{option_map}
+use borrow.Author.Tests.{eqb-true, eqb-false, eq-eqb, ne_eqb, le-leb, lt-leb}
+use Rattle.std.specs.List.{list_all, list_any, find, range_with_len}
 use Rattle.base.specs.Choice.{pick, both, either}
 use Rattle.base.specs.Record.{Entry, Rec, E, B, «V», X, same}
-use Rattle.base.proofs.Choice.{tests, case, either_left, either-right}
+use Rattle.base.proofs.Choice.{tests, case, le-or-lt, either_left, either-right}
 use Rattle.trace.specs.Rules.{Past, less, any_b, sound, all_sound}
 use Rattle.trace.specs.Fold.{mem}
-use Rattle.trace.specs.Words.{kind_of, who_of, epoch_at, counter_at, entry_at, rec_at, recs_from, past_at, known_at, all_known, submits, seek_of}
+use Rattle.trace.specs.Words.{Within, kind_of, who_of, epoch_at, counter_at, entry_at, rec_at, recs_from, past_at, known_at, all_known, submits}
 use Rattle.trace.specs.Step.{Source, late_of}
-use Rattle.trace.proofs.Four.{mem-append}
 
 -- ---- kinds
 
@@ -50,49 +55,36 @@ module _ (w : List ℕ) (i : ℕ) where
 
 -- ---- soundness
 
-module _ (n : ℕ) (w : List ℕ) (i : ℕ) {k : ℕ} (q : k ≡ kind_of w i) where
-  pub sound-x : k ≡ 4 → true ≡ both (known_at w i) (sound n (rec_at w i))
-  unfolding known_at both
-  sound-x e = rw (rec-x w i (λ d. omega arith) (λ d. omega arith) (λ d. omega arith), ← q, e)
+some : (c : ℕ) → leb 1 c ≡ not (eqb c 0)
+some c = case (eqb c 0) (λ p. rw p (lt-leb 1 c (omega tests))) (λ p. rw p (le-leb 1 c (omega tests)))
 
-  pub sound-0 : k ≡ 0 → false ≡ both (known_at w i) (sound n (rec_at w i))
-  unfolding known_at both
-  sound-0 e = rw (← q, e)
+and-true : (b : Bool) → both b true ≡ b
+unfolding both
+and-true true = refl
+and-true false = refl
 
-  pub sound-5 : 4 < k → false ≡ both (known_at w i) (sound n (rec_at w i))
+module _ (n : ℕ) (w : List ℕ) (i : ℕ) where
+  pub sound-x : kind_of w i ≡ 4 → true ≡ both (known_at w i) (sound n (rec_at w i))
   unfolding known_at both
-  sound-5 h = rw (← q, le-leb 1 k (omega arith), lt-leb k 4 h)
+  sound-x e = rw (rec-x w i (λ d. omega arith) (λ d. omega arith) (λ d. omega arith), e)
 
-  module _ {s : ℕ} (n4 : k ≡ 4 → ⊥) (n0 : k ≡ 0 → ⊥) (l4 : k ≤ 4) (es : s ≡ who_of w i) where
+  pub sound-none : (kind_of w i ≡ 0) ⊎ (4 < kind_of w i) → false ≡ both (known_at w i) (sound n (rec_at w i))
+  unfolding known_at both
+  sound-none = ⊎_elim (λ e. rw e) (λ h. rw (le-leb 1 (kind_of w i) (omega arith), lt-leb (kind_of w i) 4 h))
+
+  -- of an E, a B or a V
+  module _ (low : 1 ≤ kind_of w i) (high : kind_of w i ≤ 3) where
     known : known_at w i ≡ true
     unfolding known_at both
-    known = rw (← q, le-leb 1 k (omega arith), le-leb k 4 l4)
+    known = rw (le-leb 1 (kind_of w i) low, le-leb (kind_of w i) 4 (omega arith))
 
-    pub sound-who : n ≤ s → false ≡ both (known_at w i) (sound n (rec_at w i))
-    unfolding both
-    sound-who h = rw known (by_kind w i (λ r. false ≡ sound n r)
-        (λ _. rw (← es, le-ltb s n h)) (λ _. rw (← es, le-ltb s n h)) (λ _. rw (← es, le-ltb s n h)) (λ a b d. absurd (omega arith)))
-
-    module _ {e : ℕ} (sn : s < n) (ee : e ≡ epoch_at w i) where
-      pub sound-ep : e ≡ 0 → false ≡ both (known_at w i) (sound n (rec_at w i))
-      unfolding both
-      sound-ep z = rw known (by_kind w i (λ r. false ≡ sound n r)
-          (λ _. rw (← es, lt-ltb s n sn, ← ee, z)) (λ _. rw (← es, lt-ltb s n sn, ← ee, z)) (λ _. rw (← es, lt-ltb s n sn, ← ee, z)) (λ a b d. absurd (omega arith)))
-
-      pub sound-e : (e ≡ 0 → ⊥) → k ≡ 1 → true ≡ both (known_at w i) (sound n (rec_at w i))
-      unfolding both
-      sound-e z d = rw (known, rec-e w i (sym q ∙ d), ← es, lt-ltb s n sn, ← ee, le-leb 1 e (omega arith))
-
-      pub sound-ct : {c : ℕ} → (e ≡ 0 → ⊥) → (k ≡ 1 → ⊥) → c ≡ counter_at w i → not (eqb c 0) ≡ both (known_at w i) (sound n (rec_at w i))
-      unfolding both
-      sound-ct {c} z d ec = rw known (by_kind w i (λ r. not (eqb c 0) ≡ sound n r)
-          (λ a. absurd (d (q ∙ a))) (λ _. go) (λ _. go) (λ a b d. absurd (omega arith)))
-        where
-          last : not (eqb c 0) ≡ leb 1 c
-          last = case (eqb c 0) (λ p. rw p (sym (lt-leb 1 c (omega tests)))) (λ p. rw p (sym (le-leb 1 c (omega tests))))
-
-          go : not (eqb c 0) ≡ both (ltb (who_of w i) n) (both (leb 1 (epoch_at w i)) (leb 1 (counter_at w i)))
-          go = rw (← es, lt-ltb s n sn, ← ee, le-leb 1 e (omega arith), ← ec) last
+    pub sound-as : both (known_at w i) (sound n (rec_at w i)) ≡ both (ltb (who_of w i) n) (both (not (eqb (epoch_at w i) 0)) (either (eqb (kind_of w i) 1) (not (eqb (counter_at w i) 0))))
+    unfolding both either
+    sound-as = rw known (by_kind w i (λ r. sound n r ≡ both (ltb (who_of w i) n) (both (not (eqb (epoch_at w i) 0)) (either (eqb (kind_of w i) 1) (not (eqb (counter_at w i) 0)))))
+        (λ k. rw (eq-eqb (kind_of w i) 1 k, some (epoch_at w i)) (ap (both (ltb (who_of w i) n)) (sym (and-true (not (eqb (epoch_at w i) 0))))))
+        (λ k. let d : kind_of w i ≡ 1 → ⊥ = λ q. omega arith in rw (ne_eqb (kind_of w i) 1 d, some (epoch_at w i), some (counter_at w i)))
+        (λ k. let d : kind_of w i ≡ 1 → ⊥ = λ q. omega arith in rw (ne_eqb (kind_of w i) 1 d, some (epoch_at w i), some (counter_at w i)))
+        (λ a b d. absurd (omega arith)))
 
 -- ---- all records sound
 
@@ -103,28 +95,12 @@ mix true false true d = refl
 mix true false false d = refl
 mix false b c d = refl
 
-module _ (n : ℕ) (w : List ℕ) (count : ℕ) where
-  abbrev pub all_fit : ℕ → Bool
-  all_fit i = both (all_known w i (count - i)) (all_sound n (recs_from w i (count - i)))
-
-  all-step : (i : ℕ) → i < count → all_fit i ≡ both (both (known_at w i) (sound n (rec_at w i))) (all_fit (i + 1))
-  all-step i h =
-      let z : count - i ≡ suc (count - (i + 1)) = omega arith in
-      let y : i + 1 ≡ suc i = omega arith in
-      rw (z, y) (mix (known_at w i) (sound n (rec_at w i)) (all_known w (suc i) (count - suc i)) (all_sound n (recs_from w (suc i) (count - suc i))))
-
-  module _ {x b : Bool} (i : ℕ) where
-    pub all-no : i < count → b ≡ both (known_at w i) (sound n (rec_at w i)) → b ≡ false → all_fit i ≡ x → false ≡ x
-    unfolding both
-    all-no h e f g = sym (all-step i h ∙ rw (← e, f)) ∙ g
-
-    pub all-on : i < count → b ≡ both (known_at w i) (sound n (rec_at w i)) → b ≡ true → all_fit i ≡ x → all_fit (i + 1) ≡ x
-    unfolding both
-    all-on h e f g = sym (all-step i h ∙ rw (← e, f)) ∙ g
-
-  pub all_end : {x : Bool} (i : ℕ) → count ≤ i → all_fit i ≡ x → true ≡ x
-  unfolding both
-  all_end i h g = let z : count - i ≡ 0 = omega arith in rw z at g
+pub all-listed : (n : ℕ) (w : List ℕ) (k i : ℕ) → list_all (λ j. both (known_at w j) (sound n (rec_at w j))) (range_with_len i k) ≡ both (all_known w i k) (all_sound n (recs_from w i k))
+unfolding both
+all-listed n w zero i = refl
+all-listed n w (suc k) i =
+    let y : i + 1 ≡ suc i = omega arith in
+    ap (λ (b : Bool). both (both (known_at w i) (sound n (rec_at w i))) b) (all-listed n w k (i + 1)) ∙ rw y (sym (mix (known_at w i) (sound n (rec_at w i)) (all_known w (suc i) k) (all_sound n (recs_from w (suc i) k))))
 
 -- ---- the B of a transaction
 
@@ -153,66 +129,64 @@ module _ (w : List ℕ) (i : ℕ) where
   none_any zero h = refl
   none_any (suc j) h = any_step w i j (past_at w j) ∙ nor (submits w i j) (any_b (entry_at w i) (past_at w j)) (h j (omega arith)) (none_any j (λ m l. h m (omega arith)))
 
-  seek-le : (k j : ℕ) → j + k ≤ i → seek_of w i j k ≤ i
-  unfolding seek_of pick
-  seek-le zero j h = omega arith
-  seek-le (suc k) j h = go (seek-le k (suc j) (omega arith)) (submits w i j)
-    where
-      go : seek_of w i (suc j) k ≤ i → (b : Bool) → pick b j (seek_of w i (suc j) k) ≤ i
-      go ih true = omega arith
-      go ih false = ih
+-- the first of a list that passes a test
+found-at : (p : ℕ → Bool) (xs : List ℕ) (k : ℕ) → find p xs ≡ Some k → (p k ≡ true) × ((j : ℕ) × (j < length xs) × (k ≡ get_or xs j 0))
+found-at p [] k e = cc
+found-at p (x ∷ xs) k e = case (p x)
+    (λ q. let y = rw q at e in let z : k ≡ x = cc in (rw z q, (0, omega arith, z)))
+    (λ q. let r = found-at p xs k (rw q at e) in (r.0, (suc r.1.0, omega (arith, r.1.1), r.1.2)))
 
-  seek-at : (k j : ℕ) → j + k ≤ i → seek_of w i j k < i → submits w i (seek_of w i j k) ≡ true
-  unfolding seek_of pick
-  seek-at zero j h l = absurd (omega arith)
-  seek-at (suc k) j h l = go (seek-at k (suc j) (omega arith)) (submits w i j) refl l
-    where
-      go : (seek_of w i (suc j) k < i → submits w i (seek_of w i (suc j) k) ≡ true) → (b : Bool) → submits w i j ≡ b
-          → pick b j (seek_of w i (suc j) k) < i → submits w i (pick b j (seek_of w i (suc j) k)) ≡ true
-      go ih true e l = e
-      go ih false e l = ih l
+found-none : (p : ℕ → Bool) (xs : List ℕ) → find p xs ≡ None → (j : ℕ) → j < length xs → p (get_or xs j 0) ≡ false
+found-none p [] e j h = absurd (omega arith)
+found-none p (x ∷ xs) e zero h = case (p x) (λ q. let y = rw q at e in cc) (λ q. q)
+found-none p (x ∷ xs) e (suc j) h = case (p x) (λ q. let y = rw q at e in cc) (λ q. found-none p xs (rw q at e) j (omega arith))
 
-  seek-none : (k j : ℕ) → j + k ≤ i → i ≤ seek_of w i j k → (m : ℕ) → j ≤ m → m < j + k → submits w i m ≡ false
-  unfolding seek_of pick
-  seek-none zero j h l m a b = absurd (omega arith)
-  seek-none (suc k) j h l m a b = go (λ g. seek-none k (suc j) (omega arith) g m) (submits w i j) refl l
-    where
-      go : (i ≤ seek_of w i (suc j) k → suc j ≤ m → m < suc j + k → submits w i m ≡ false) → (c : Bool) → submits w i j ≡ c
-          → i ≤ pick c j (seek_of w i (suc j) k) → submits w i m ≡ false
-      go ih true e g = absurd (omega arith)
-      go ih false e g = case (eqb m j) (λ q. subst (λ (x : ℕ). submits w i x ≡ false) (sym (eqb-true m j q)) e) (λ q. ih g (omega tests) (omega arith))
+-- the records before record i, those from `seen` on first
+module _ (i seen : ℕ) (h : seen ≤ i) where
+  abbrev pub road : List ℕ
+  road = range_with_len seen (i - seen) ++ range_with_len 0 seen
 
-  pub source-near : (k seen : ℕ) → k ≡ seek_of w i seen (i - seen) → seen ≤ i → k < i → Source w i k
-  source-near k seen e h l =
-      let a : submits w i k ≡ true = subst (λ (x : ℕ). submits w i x ≡ true) (sym e) (seek-at (i - seen) seen (omega arith) (omega arith)) in
-      record { low = omega arith; is = lt-ltb k i l ∙ sym (any_at k i l a) }
+  road-length : length road ≡ i
+  road-length = length-append (range_with_len seen (i - seen)) (range_with_len 0 seen) ∙ omega (arith, length-range_with_len seen (i - seen), length-range_with_len 0 seen)
 
-  pub source-far : (k : ℕ) → k ≡ seek_of w i 0 (i - 0) → Source w i k
-  source-far k e = case (ltb k i)
-      (λ q. source-near k 0 e (omega arith) (ltb-true k i q))
-      (λ q. record { low = omega (arith, seek-le (i - 0) 0 (omega arith)); is = q ∙ sym (none_any i (λ m l. seek-none (i - 0) 0 (omega arith) (omega tests) m (omega arith) (omega arith))) })
+  front : (j : ℕ) → j < i - seen → get_or road j 0 ≡ seen + j
+  front j l = get_or-append (range_with_len seen (i - seen)) (range_with_len 0 seen) 0 j (omega (arith, length-range_with_len seen (i - seen))) ∙ get_or-range_with_len seen (i - seen) j 0 l
+
+  back : (j : ℕ) → j < seen → get_or road (i - seen + j) 0 ≡ j
+  back j l =
+      let z : length (range_with_len seen (i - seen)) ≡ i - seen = length-range_with_len seen (i - seen) in
+      subst (λ (m : ℕ). get_or road (m + j) 0 ≡ j) z (get_or-append-add (range_with_len seen (i - seen)) (range_with_len 0 seen) j 0 ∙ get_or-range_with_len 0 seen j 0 l ∙ omega arith)
+
+  road-low : (j : ℕ) → j < length road → get_or road j 0 < i
+  road-low j l = ⊎_elim
+      (λ (x : i - seen ≤ j). let z : i - seen + (j - (i - seen)) ≡ j = omega arith in
+      let y : j - (i - seen) < seen = omega (arith, road-length) in
+      subst (λ (m : ℕ). get_or road m 0 < i) z (omega (arith, back (j - (i - seen)) y)))
+      (λ (x : j < i - seen). omega (arith, front j x))
+      (le-or-lt (i - seen) j)
+
+  pub road-within : (w : List ℕ) (x j : ℕ) → Within w i → j < length road → x ≡ get_or road j x → Within w x
+  road-within w x j g l e =
+      let z : x ≡ get_or road j 0 = e ∙ get_or_default road j x 0 l in
+      omega (arith, road-low j l)
+
+  pub source-is : (w : List ℕ) (o : Option ℕ) → option_map (λ x. x) o ≡ find (submits w i) road → Source w i o
+  source-is w None e = none_any w i i (λ m l. ⊎_elim
+      (λ (x : seen ≤ m). let z : seen + (m - seen) ≡ m = omega arith in
+      ap (submits w i) (sym (front (m - seen) (omega arith) ∙ z)) ∙ found-none (submits w i) road (sym e) (m - seen) (omega (arith, road-length)))
+      (λ (x : m < seen). ap (submits w i) (sym (back m x)) ∙ found-none (submits w i) road (sym e) (i - seen + m) (omega (arith, road-length)))
+      (le-or-lt seen m))
+  source-is w (Some k) e =
+      let r = found-at (submits w i) road k (sym e) in
+      let l : k < i = omega (arith, r.1.2, road-low r.1.0 r.1.1) in
+      (l, any_at w i k i l r.0)
 
 -- ---- the longest, as records
 
-module _ (w sp : List ℕ) (t : Entry) where
-  mem-last : (j : ℕ) → j < length sp → mem t (map (entry_at w) (take (suc j) sp)) ≡ either (same t (entry_at w (get_or sp j 0))) (mem t (map (entry_at w) (take j sp)))
-  mem-last j h = rw (take-suc sp j 0 h, map-append (entry_at w) (take j sp) (get_or sp j 0 ∷ [])) (mem-append t (entry_at w (get_or sp j 0)) (map (entry_at w) (take j sp)))
-
-module _ (w sp : List ℕ) (t : Entry) {x : Bool} where
-  pub among-yes : {b : Bool} (k : ℕ) → 0 < k → k ≤ length sp → b ≡ same t (entry_at w (get_or sp (k - 1) 0)) → b ≡ true → mem t (map (entry_at w) (take k sp)) ≡ x → true ≡ x
-  unfolding either
-  among-yes {b} k h l p q g =
-      let z : k ≡ suc (k - 1) = omega arith in
-      sym (ap (λ (m : ℕ). mem t (map (entry_at w) (take m sp))) z ∙ mem-last w sp t (k - 1) (omega arith) ∙ rw (← p, q)) ∙ g
-
-  pub among-on : {b : Bool} (k : ℕ) → 0 < k → k ≤ length sp → b ≡ same t (entry_at w (get_or sp (k - 1) 0)) → b ≡ false → mem t (map (entry_at w) (take k sp)) ≡ x → mem t (map (entry_at w) (take (k - 1) sp)) ≡ x
-  unfolding either
-  among-on {b} k h l p q g =
-      let z : k ≡ suc (k - 1) = omega arith in
-      sym (ap (λ (m : ℕ). mem t (map (entry_at w) (take m sp))) z ∙ mem-last w sp t (k - 1) (omega arith) ∙ rw (← p, q)) ∙ g
-
-  pub among-end : (k : ℕ) → k ≤ 0 → mem t (map (entry_at w) (take k sp)) ≡ x → false ≡ x
-  among-end k h g = let z : k ≡ 0 = omega arith in rw z at g
+pub mem-listed : (w : List ℕ) (t : Entry) (l : List ℕ) → mem t (map (entry_at w) l) ≡ list_any (λ j. same t (entry_at w j)) l
+unfolding either
+mem-listed w t [] = refl
+mem-listed w t (j ∷ l) = ap (either (same t (entry_at w j))) (mem-listed w t l)
 
 -- ---- rules 5 and 6 at a V that makes the longest longer
 

@@ -14,17 +14,20 @@ use Rattle.base.proofs.Choice.{tests, case, both_true, both-no}
 use Rattle.trace.specs.Rules.{Past, vs, broken, sound, all_sound, Answer, breaks, refuses, walk, fit, answer}
 use Rattle.trace.specs.Words.{WORDS, kind_of, who_of, epoch_at, counter_at, entry_at, rec_at, recs_from, recs_of, past_at, count_of, known_at, all_known, readable, grown, laid}
 use Rattle.trace.specs.Meaning.{verdict, left, Judged, Checked}
-use Rattle.trace.specs.Step.{Ready, Latest, Holds, Stepped}
+use Rattle.trace.specs.Step.{Ready, Latest, counted, Holds, Stepped}
 use Rattle.trace.specs.Table.{cell, cleared, spot, spot_at, Walkable, Tabled, Noted}
 use Rattle.trace.specs.declared.step.State.{State}
-use Rattle.trace.specs.declared.step.Told.{Told}
+use Rattle.std.specs.Prelude.{Option, Some, None, SomeIff, Ok, Err}
+use Rattle.trace.specs.Number.{number}
+use Rattle.trace.specs.declared.Rule.{Rule}
+use Rattle.trace.specs.declared.Rule.TheVariants.{OneE, CountersRun, EarlierB, OneBegins, EarlierEpochs, VsRise}
 use Rattle.trace.specs.declared.Verdict.{Verdict}
 use Rattle.trace.specs.declared.Verdict.TheVariants.{Keeps, Breaks, Refused}
 use Rattle.trace.proofs.Main.{inv-start}
 use Rattle.trace.proofs.Records.{by_kind, rec-b}
 use Rattle.trace.proofs.Ruling.{past-length, grown-low, marks-low}
 use Rattle.trace.proofs.Laws.{seq-len}
-use Rattle.trace.proofs.Lookup.{laid-high, length-laid, cleared-twice, cleared-laid, take-cleared, table_empty, walkable, spot-low}
+use Rattle.trace.proofs.Lookup.{laid-high, length-laid, cleared-twice, cleared-laid, take-cleared, table_empty, walkable}
 use Rattle.trace.proofs.Whole.{unbroken}
 
 -- before record i, with so many nodes in the table; the space was sp₀ before the first record
@@ -33,6 +36,20 @@ pub record Running (n : ℕ) (w sp₀ : List ℕ) (count : ℕ) (sp : List ℕ) 
   pub space : cleared count sp ≡ laid (grown (past_at w i)) (cleared count sp₀)
   pub rest : walk n (past_at w i) (recs_from w i (count - i)) ≡ walk n [] (recs_from w 0 count)
   pub table : i < count → Tabled w (cell sp count) count nodes i
+
+-- every rule has a number
+some : (r : Rule) → number r ≡ 0 → ⊥
+some OneE e = omega arith
+some CountersRun e = omega arith
+some EarlierB e = omega arith
+some OneBegins e = omega arith
+some EarlierEpochs e = omega arith
+some VsRise e = omega arith
+
+-- one less, or none, counted from 1
+counted-less : (m : Option ℕ) {x : ℕ} → SomeIff m (1 ≤ x) (x - 1) → counted m ≡ x
+counted-less None h = omega (arith, h)
+counted-less (Some j) h = omega (arith, h)
 
 -- ---- every record is sound
 
@@ -137,22 +154,19 @@ module _ (n : ℕ) (w sp₀ : List ℕ) (count : ℕ) (sp : List ℕ) (s : State
   pub run-walks : count ≡ count_of w → 4 * count ≤ length sp → Walkable w sp count
   run-walks ec room = walkable w sp count nodes i (R.table low) low (omega arith) room
 
-  pub run-low : {at : ℕ} → Walkable w sp count → at ≡ spot_at w (cell sp count) count i → at < 3 * count
-  run-low {at} W e = spot-low w (cell sp count) count i at W.links (omega arith) e
-
-  pub run-latest : {at : ℕ} → at ≡ spot_at w (cell sp count) count i → Latest w i (cell sp count at)
+  pub run-latest : {at : ℕ} (m : Option ℕ) → at ≡ spot_at w (cell sp count) count i → SomeIff m (1 ≤ cell sp count at) (cell sp count at - 1) → Latest w i m
   unfolding spot_at pick
-  run-latest {at} e k =
+  run-latest {at} m e n k =
       let z : at ≡ spot w (cell sp count) (epoch_at w i) count 0 (epoch_at w i) = rw (le-leb (kind_of w i) 2 k) at e in
-      ap (cell sp count) z ∙ (R.table low).says (epoch_at w i)
+      counted-less m n ∙ ap (cell sp count) z ∙ (R.table low).says (epoch_at w i)
 
   -- record i breaks no rule
-  module _ {r : Told} {sp' : List ℕ} (room : 4 * count ≤ length sp) (S : Stepped n w sp i r sp') (z : r.rule ≡ 0) where
+  module _ {t : State} {sp' : List ℕ} (room : 4 * count ≤ length sp) (S : Stepped n w sp i (Ok t) sp') where
     short : length (grown (rec_at w i ∷ past_at w i)) ≤ suc i
     short = omega (arith, grown-low (rec_at w i ∷ past_at w i), past-length w (suc i))
 
     same-cells : cell sp' count ≡ cell sp count
-    same-cells = fun_ext (λ k. ap (λ (l : List ℕ). get_or l (count + k) 0) (S.space z) ∙ laid-high (grown (rec_at w i ∷ past_at w i)) sp (count + k) (omega (arith, short)))
+    same-cells = fun_ext (λ k. ap (λ (l : List ℕ). get_or l (count + k) 0) S.space ∙ laid-high (grown (rec_at w i ∷ past_at w i)) sp (count + k) (omega (arith, short)))
 
     pub run-table : Tabled w (cell sp' count) count nodes i
     run-table = subst (λ (f : ℕ → ℕ). Tabled w f count nodes i) (sym same-cells) (R.table low)
@@ -160,38 +174,38 @@ module _ (n : ℕ) (w sp₀ : List ℕ) (count : ℕ) (sp : List ℕ) (s : State
     pub run_at : {at : ℕ} → at ≡ spot_at w (cell sp count) count i → at ≡ spot_at w (cell sp' count) count i
     run_at e = e ∙ ap (λ (f : ℕ → ℕ). spot_at w f count i) (sym same-cells)
 
-    pub run_on : {nodes' : ℕ} {sp'' : List ℕ} → length sp'' ≡ length sp' → Noted w count i sp' nodes' sp'' → Running n w sp₀ count sp'' r.state (i + 1) nodes'
+    pub run_on : {nodes' : ℕ} {sp'' : List ℕ} → length sp'' ≡ length sp' → Noted w count i sp' nodes' sp'' → Running n w sp₀ count sp'' t (i + 1) nodes'
     run_on {nodes'} {sp''} len N =
         let y : i + 1 ≡ suc i = omega arith in
-        let h = S.goes z in
-        let l : r.state.len ≤ count = omega (arith, h.len, short) in
-        let m : length sp' ≡ length sp = ap length (S.space z) ∙ length-laid (grown (rec_at w i ∷ past_at w i)) sp (omega (arith, short)) in
-        subst (λ (j : ℕ). Running n w sp₀ count sp'' r.state j nodes') (sym y)
+        let h = S.goes in
+        let l : t.len ≤ count = omega (arith, h.len, short) in
+        let m : length sp' ≡ length sp = ap length S.space ∙ length-laid (grown (rec_at w i ∷ past_at w i)) sp (omega (arith, short)) in
+        subst (λ (j : ℕ). Running n w sp₀ count sp'' t j nodes') (sym y)
         (record {
           holds = record {
             inv = h.inv;
-            laid = sym (take-cleared count sp'' (omega arith) r.state.len l) ∙ ap (take r.state.len) N.kept ∙ take-cleared count sp' (omega arith) r.state.len l ∙ h.laid;
+            laid = sym (take-cleared count sp'' (omega arith) t.len l) ∙ ap (take t.len) N.kept ∙ take-cleared count sp' (omega arith) t.len l ∙ h.laid;
             len = h.len;
             size = h.size;
             cnt = h.cnt;
             top = h.top;
             seen = h.seen;
           };
-          space = N.kept ∙ ap (cleared count) (S.space z) ∙ cleared-laid count sp room (grown (rec_at w i ∷ past_at w i)) (omega (arith, short))
+          space = N.kept ∙ ap (cleared count) S.space ∙ cleared-laid count sp room (grown (rec_at w i ∷ past_at w i)) (omega (arith, short))
               ∙ ap (laid (grown (rec_at w i ∷ past_at w i))) R.space
               ∙ laid-laid (grown (past_at w i)) (grown (rec_at w i ∷ past_at w i)) (cleared count sp₀) (grown-more (rec_at w i) (past_at w i));
-          rest = sym (ap (walk n (past_at w i)) next ∙ unbroken (broken n (rec_at w i ∷ past_at w i)) (length (past_at w i)) (walk n (rec_at w i ∷ past_at w i) (recs_from w (suc i) (count - suc i))) (sym S.rule ∙ z)) ∙ R.rest;
+          rest = sym (ap (walk n (past_at w i)) next ∙ unbroken (broken n (rec_at w i ∷ past_at w i)) (length (past_at w i)) (walk n (rec_at w i ∷ past_at w i) (recs_from w (suc i) (count - suc i))) (sym S.rule)) ∙ R.rest;
           table = λ _. N.table;
         })
 
-  pub run-stop : {b : Bool} {r : Told} {x sp' sp'' : List ℕ} → 4 * count ≤ length x → sp₀ ≡ cleared count x → count ≡ count_of w → b ≡ both (all_known w 0 count) (all_sound n (recs_from w 0 count)) → b ≡ true → Stepped n w sp i r sp' → (r.rule ≡ 0 → ⊥)
-      → sp'' ≡ cleared count sp' → Judged n w x count (Breaks i r.rule) sp''
+  pub run-stop : {b : Bool} {r : Rule} {x sp' sp'' : List ℕ} → 4 * count ≤ length x → sp₀ ≡ cleared count x → count ≡ count_of w → b ≡ both (all_known w 0 count) (all_sound n (recs_from w 0 count)) → b ≡ true → Stepped n w sp i (Err r) sp'
+      → sp'' ≡ cleared count sp' → Judged n w x count (Breaks i r) sp''
   unfolding pick
-  run-stop {b} {r} {x} {sp'} {sp''} room e₀ ec e y S z c = record {
+  run-stop {b} {r} {x} {sp'} {sp''} room e₀ ec e y S c = record {
     says = sym (rw (← e, y) (sym R.rest ∙ ap (walk n (past_at w i)) next
-        ∙ broke (broken n (rec_at w i ∷ past_at w i)) (length (past_at w i)) (walk n (rec_at w i ∷ past_at w i) (recs_from w (suc i) (count - suc i))) (λ q. z (S.rule ∙ q))
+        ∙ broke (broken n (rec_at w i ∷ past_at w i)) (length (past_at w i)) (walk n (rec_at w i ∷ past_at w i) (recs_from w (suc i) (count - suc i))) (λ q. some r (S.rule ∙ q))
         ∙ rw (past-length w i, ← S.rule)));
-    space = c ∙ ap (cleared count) (S.stays z) ∙ R.space ∙ ap (laid (grown (past_at w i))) (was-clear w x sp₀ count room e₀ ec);
+    space = c ∙ ap (cleared count) S.stays ∙ R.space ∙ ap (laid (grown (past_at w i))) (was-clear w x sp₀ count room e₀ ec);
   }
 
 pub run_end : (n : ℕ) (w x sp₀ : List ℕ) (count : ℕ) (sp sp' : List ℕ) (s : State) (i nodes : ℕ) {b : Bool} → 4 * count ≤ length x → sp₀ ≡ cleared count x → Running n w sp₀ count sp s i nodes → i ≤ count → count ≤ i → count ≡ count_of w

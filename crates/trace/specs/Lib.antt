@@ -2,6 +2,8 @@ pub mod Rules
 pub mod Fold
 pub mod Held
 pub mod Words
+pub mod Kinds
 pub mod Table
 pub mod Meaning
+pub mod Number
 pub mod Step

@@ -5,13 +5,14 @@ use Rattle.base.specs.Refusals.{TRACE}
 use Rattle.trace.specs.Rules.{Answer, keeps, breaks, refuses, answer, walk, all_sound}
 use Rattle.trace.specs.Words.{recs_of, recs_from, past_at, count_of, all_known, readable, grown, laid}
 use Rattle.trace.specs.Table.{cleared}
+use Rattle.trace.specs.Number.{number}
 use Rattle.trace.specs.declared.Verdict.{Verdict}
 use Rattle.trace.specs.declared.Verdict.TheVariants.{Keeps, Breaks, Refused}
 
 -- the paper's answer of each case
 abbrev pub meant : Verdict → Answer
 meant Keeps = keeps
-meant (Breaks place rule) = breaks place rule
+meant (Breaks place rule) = breaks place (number rule)
 meant Refused = refuses
 
 -- the number of the refusal, 0 for an answer

@@ -64,6 +64,11 @@ pub record Walkable (w sp : List ℕ) (count : ℕ) : Type 0 where
   pub recs : WORDS * count ≤ length w
   pub room : 4 * count ≤ length sp
 
+-- word r is that one, and it lies in the table
+pub record Found (w : List ℕ) (f : ℕ → ℕ) (count i r : ℕ) : Type 0 where
+  pub is : r ≡ spot_at w f count i
+  pub low : r < 3 * count
+
 -- before record i the table has so many nodes, and its walks end at the latest E or B of each epoch
 pub record Tabled (w : List ℕ) (f : ℕ → ℕ) (count nodes i : ℕ) : Type 0 where
   pub links : Linked f nodes i

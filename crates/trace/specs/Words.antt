@@ -96,8 +96,3 @@ latest_of w e (suc i) = pick (of_epoch w i e) (suc i) (latest_of w e i)
 -- is record j a B of the transaction of record i?
 unfoldable pub submits : List ℕ → ℕ → ℕ → Bool
 submits w i j = both (eqb (kind_of w j) 2) (same (entry_at w i) (entry_at w j))
-
--- the first such of the k records from j on; i if there is none
-unfoldable pub seek_of : List ℕ → ℕ → ℕ → ℕ → ℕ
-seek_of w i j zero = i
-seek_of w i j (suc k) = pick (submits w i j) j (seek_of w i (suc j) k)

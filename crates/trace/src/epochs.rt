@@ -3,11 +3,13 @@
 // It is a digital search tree in the words of the space from word `count` on, three for each record. A node has three words:
 // the latest E or B of its epoch, counted from 1, and its two children, each a node's number, or 0 for none. Node 0 is the root,
 // empty at first. A walk for an epoch goes down by the epoch's bits, the lowest first, so it takes at most 64 steps.
-ghost use Rattle.std.specs.Prelude.{◌≡◌, ◌+◌, ◌*◌, ◌≤◌, ◌<◌, length};
+// Stays: no heap, so the tree lies in lent words and a child is a node's number.
+// Stays: a struct of `recs`, `space` and `count` is no plainer: steps write in the space, so each call makes it anew.
+ghost use Rattle.std.specs.Prelude.{◌≡◌, ◌*◌, ◌≤◌, ◌<◌, leb, length};
 ghost use Rattle.trace.specs.Words.{WORDS, kind_of};
-ghost use Rattle.trace.specs.Table.{cell, cleared, ends, spot, spot_at, Walkable, Tabled, Noted};
+ghost use Rattle.trace.specs.Table.{cell, cleared, ends, spot, Walkable, Found, Tabled, Noted};
 
-use crate::words;
+use crate::words::{Kind, Record};
 
 // Does the walk for epoch e end at node j? It is the epoch's, or the empty root.
 fn ends(recs: &[u64], space: &[u64], count: usize, j: usize, e: u64) -> bool
@@ -15,10 +17,7 @@ fn ends(recs: &[u64], space: &[u64], count: usize, j: usize, e: u64) -> bool
     ensures { result ≡ ends recs.now (cell space.now count) e j }
 {
     let k = space[count + 3 * j] as usize;
-    if k == 0 {
-        return true;
-    }
-    words::epoch(recs, k - 1) == e
+    k == 0 || Record::at(recs, k - 1).epoch() == e
 }
 
 // The word at which the walk for epoch e ends: the first of the node at which it does, or a child that is not there. After 64
@@ -29,8 +28,7 @@ fn walk(recs: &[u64], space: &[u64], count: usize, e: u64) -> usize
 {
     let mut j = 0;
     let mut rest = e;
-    let mut left: u8 = 64;
-    while 0 < left {
+    for _ in 0..u64::BITS {
         if ends(recs, space, count, j, e) {
             return 3 * j;
         }
@@ -40,39 +38,40 @@ fn walk(recs: &[u64], space: &[u64], count: usize, e: u64) -> usize
             return at;
         }
         j = child;
-        rest = rest / 2;
-        left -= 1;
+        rest /= 2;
     }
     3 * j
 }
 
-// The same for the epoch of record i, if it is an E or a B; else word 0.
-pub fn find(recs: &[u64], space: &[u64], count: usize, i: usize) -> usize
-    requires { Walkable recs.now space.now count × (i < count) }
-    ensures { result ≡ spot_at recs.now (cell space.now count) count i }
+// Is record r an E or a B? The table names no other.
+fn listed(r: Record) -> bool
+    requires { 1 ≤ kind_of r.recs.now r.i }
+    ensures { result ≡ leb (kind_of r.entry.recs.now r.entry.i) 2 }
 {
-    if 2 < words::kind(recs, i) {
-        return 0;
-    }
-    walk(recs, space, count, words::epoch(recs, i))
+    matches!(r.kind(), Some(Kind::E | Kind::B))
 }
 
-// Record i is the latest of its epoch, whose walk ended at word `at`; how many nodes there are then.
-pub fn note(
-    recs: &[u64],
-    space: &mut [u64],
-    count: usize,
-    nodes: usize,
-    at: usize,
-    i: usize,
-) -> usize
-    requires { Tabled recs.now (cell space.old count) count nodes i × (i < count) × (at ≡ spot_at recs.now (cell space.old count) count i) × (1 ≤ kind_of recs.now i) × (WORDS * count ≤ length recs.now) × (4 * count ≤ length space.old) }
-    ensures { Noted recs.now count i space.old result space.new }
+// The word at which the walk for the epoch of record r ends, if it is an E or a B; else word 0.
+pub fn find(r: Record, space: &[u64], count: usize) -> usize
+    requires { Walkable r.recs.now space.now count × (r.i < count) × (1 ≤ kind_of r.recs.now r.i) }
+    ensures { Found r.entry.recs.now (cell space.now count) count r.entry.i result }
 {
-    if 2 < words::kind(recs, i) {
+    if listed(r) {
+        walk(r.recs, space, count, r.epoch())
+    } else {
+        0
+    }
+}
+
+// Record r is the latest of its epoch, whose walk ended at word `at`; how many nodes there are then.
+pub fn note(r: Record, space: &mut [u64], count: usize, nodes: usize, at: usize) -> usize
+    requires { Tabled r.recs.now (cell space.old count) count nodes r.i × (r.i < count) × Found r.recs.now (cell space.old count) count r.i at × (1 ≤ kind_of r.recs.now r.i) × (WORDS * count ≤ length r.recs.now) × (4 * count ≤ length space.old) }
+    ensures { Noted r.entry.recs.now count r.entry.i space.old result space.new }
+{
+    if !listed(r) {
         return nodes;
     }
-    let latest = i as u64 + 1;
+    let latest = r.i as u64 + 1;
     if at % 3 == 0 {
         space[count + at] = latest;
         return nodes;
@@ -87,10 +86,5 @@ pub fn clear(space: &mut [u64], count: usize)
     requires { 4 * count ≤ length space.old }
     ensures { space.new ≡ cleared count space.old }
 {
-    let end = 4 * count;
-    let mut k = count;
-    while k < end {
-        space[k] = 0;
-        k += 1;
-    }
+    space[count..4 * count].fill(0);
 }

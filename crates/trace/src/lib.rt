@@ -13,42 +13,47 @@ mod words;
 ghost use Rattle.std.specs.Prelude.{◌≡◌, ◌*◌, ◌≤◌, ◌<◌, length};
 ghost use Rattle.base.specs.Choice.{both};
 ghost use Rattle.trace.specs.Rules.{sound, all_sound};
-ghost use Rattle.trace.specs.Words.{WORDS, Within, count_of, rec_at, recs_from, known_at, all_known};
+ghost use Rattle.trace.specs.Words.{WORDS, count_of, rec_at, recs_from, known_at, all_known};
 ghost use Rattle.trace.specs.Meaning.{Judged, Checked};
 
+use words::{Kind, Record};
+
+// The paper's six rules of a trace, each with its number.
+#[derive(Clone, Copy, PartialEq, Eq, Debug)]
+pub enum Rule {
+    // one E for an epoch
+    OneE = 1,
+    // B comes after that server's E of that epoch; an epoch's counters run 1, 2, 3
+    CountersRun = 2,
+    // V equals an earlier B
+    EarlierB = 3,
+    // any two servers' V sequences: one begins the other
+    OneBegins = 4,
+    // before its B a server has a V of each earlier-epoch transaction with a V anywhere
+    EarlierEpochs = 5,
+    // one server's V identifiers rise
+    VsRise = 6,
+}
+
 // Yes; or the record, counted from 0, at which the trace so far first breaks a rule, and the lowest such rule; or TRACE.
-#[derive(Clone, Copy)]
+#[derive(Clone, Copy, PartialEq, Eq, Debug)]
 pub enum Verdict {
     Keeps,
-    Breaks(u32, u8),
+    Breaks(u32, Rule),
     Refused,
 }
 
-// Is record i of a known kind and well formed?
-fn sound(n: u32, recs: &[u64], i: usize) -> bool
-    requires { Within recs.now i }
-    ensures { result ≡ both (known_at recs.now i) (sound n (rec_at recs.now i)) }
+// Is record r of a known kind and well formed?
+fn sound(n: u32, r: Record) -> bool
+    ensures { result ≡ both (known_at r.entry.recs.now r.entry.i) (sound n (rec_at r.entry.recs.now r.entry.i)) }
 {
-    let k = words::kind(recs, i);
-    if k == 4 {
-        return true;
+    match r.kind() {
+        None => false,
+        Some(Kind::X) => true,
+        Some(k) => {
+            r.server() < u64::from(n) && r.epoch() != 0 && (k == Kind::E || r.counter() != 0)
+        }
     }
-    if k == 0 {
-        return false;
-    }
-    if 4 < k {
-        return false;
-    }
-    if (n as u64) <= words::server(recs, i) {
-        return false;
-    }
-    if words::epoch(recs, i) == 0 {
-        return false;
-    }
-    if k == 1 {
-        return true;
-    }
-    words::counter(recs, i) != 0
 }
 
 // Are all of them?
@@ -56,14 +61,7 @@ fn all_sound(n: u32, recs: &[u64], count: usize) -> bool
     requires { WORDS * count ≤ length recs.now }
     ensures { result ≡ both (all_known recs.now 0 count) (all_sound n (recs_from recs.now 0 count)) }
 {
-    let mut i = 0;
-    while i < count {
-        if !sound(n, recs, i) {
-            return false;
-        }
-        i += 1;
-    }
-    true
+    (0..count).all(|i| sound(n, Record::at(recs, i)))
 }
 
 // The walk: record after record, until one breaks a rule. The table of epochs is empty before it and after it.
@@ -82,19 +80,19 @@ fn judge(n: u32, recs: &[u64], space: &mut [u64], count: usize) -> Verdict
         seen: 0,
     };
     let mut nodes = 1;
-    let mut i = 0;
-    while i < count {
-        let at = epochs::find(recs, space, count, i);
-        let last = space[count + at] as usize;
-        let t = step::step(recs, space, i, s, last);
-        if t.rule != 0 {
-            epochs::clear(space, count);
-            let place = i as u32;
-            return Verdict::Breaks(place, t.rule);
+    for i in 0..count {
+        let r = Record { recs, i };
+        let at = epochs::find(r, space, count);
+        let last = (space[count + at] as usize).checked_sub(1);
+        match step::step(r, space, s, last) {
+            Ok(t) => s = t,
+            Err(rule) => {
+                epochs::clear(space, count);
+                let place = i as u32;
+                return Verdict::Breaks(place, rule);
+            }
         }
-        s = t.state;
-        nodes = epochs::note(recs, space, count, nodes, at, i);
-        i += 1;
+        nodes = epochs::note(r, space, count, nodes, at);
     }
     epochs::clear(space, count);
     Verdict::Keeps
@@ -105,20 +103,11 @@ fn judge(n: u32, recs: &[u64], space: &mut [u64], count: usize) -> Verdict
 pub fn check(n: u32, recs: &[u64], space: &mut [u64]) -> Verdict
     ensures { Checked n recs.now space.old result space.new }
 {
-    if n < 3 {
-        return Verdict::Refused;
-    }
-    if 7 < n {
+    if !(3..=7).contains(&n) {
         return Verdict::Refused;
     }
     let count = recs.len() / words::WORDS;
-    if recs.len() % words::WORDS != 0 {
-        return Verdict::Refused;
-    }
-    if 1024 < count {
-        return Verdict::Refused;
-    }
-    if space.len() < 4 * count {
+    if recs.len() % words::WORDS != 0 || 1024 < count || space.len() < 4 * count {
         return Verdict::Refused;
     }
     judge(n, recs, space, count)

@@ -1,9 +1,10 @@
 // One record against the trace before it, which breaks no rule.
-ghost use Rattle.std.specs.Prelude.{◌≡◌, List, ℕ, ◌≤◌, ◌<◌, get_or};
+ghost use Rattle.std.specs.Prelude.{◌≡◌, List, ℕ, ◌≤◌, ◌<◌, length, get_or};
 ghost use Rattle.trace.specs.Words.{Within, Marked, kind_of, who_of, epoch_at, counter_at, latest_of};
-ghost use Rattle.trace.specs.Step.{Ready, Latest, Steps, Follows, lacks_of, rises_of, late_of, inside_of};
+ghost use Rattle.trace.specs.Step.{Ready, Latest, counted, broken_of, Steps, Follows, lacks_of, rises_of, late_of, inside_of};
 
-use crate::{look, words};
+use crate::words::{Kind, Record};
+use crate::{Rule, look};
 
 // What is kept of the trace so far, beside the space, which has the numbers of the records at which the longest delivered
 // sequence grew: all servers' sequences begin it. `counts` is how many transactions each server delivered, `len` the length of
@@ -17,176 +18,148 @@ pub struct State {
     pub seen: usize,
 }
 
-// The lowest rule that the record breaks, 0 if it breaks none; and then the state after it.
-#[derive(Clone, Copy)]
-pub struct Told {
-    pub rule: u8,
-    pub state: State,
-}
-
-// An E: rule 1. `last` is the latest E or B of its epoch, counted from 1; 0 if there is none.
-fn at_e(recs: &[u64], i: usize, s: State, last: usize) -> Told
-    requires { Within recs.now i × (kind_of recs.now i ≡ 1) × (last ≡ latest_of recs.now (epoch_at recs.now i) i) }
-    ensures { (sp : List ℕ) → Steps recs.now sp i s result sp }
+// An E: rule 1. `last` is the latest E or B of its epoch.
+fn at_e(r: Record, s: State, last: Option<usize>) -> Result<State, Rule>
+    requires { (kind_of r.recs.now r.i ≡ 1) × (counted last ≡ latest_of r.recs.now (epoch_at r.recs.now r.i) r.i) }
+    ensures { (sp : List ℕ) → Steps r.entry.recs.now sp r.entry.i s result sp }
 {
-    if last == 0 {
-        return Told { rule: 0, state: s };
+    match last {
+        None => Ok(s),
+        Some(_) => Err(Rule::OneE),
     }
-    Told { rule: 1, state: s }
 }
 
 // Rule 2 at a B: the latest record of its epoch is the E of its server, or a B of it with the counter before.
-fn follows(recs: &[u64], i: usize, last: usize) -> bool
-    requires { Within recs.now i × (1 ≤ counter_at recs.now i) × (last ≡ latest_of recs.now (epoch_at recs.now i) i) }
-    ensures { Follows recs.now i result }
+fn follows(r: Record, last: Option<usize>) -> bool
+    requires { (1 ≤ counter_at r.recs.now r.i) × (counted last ≡ latest_of r.recs.now (epoch_at r.recs.now r.i) r.i) }
+    ensures { Follows r.entry.recs.now r.entry.i result }
 {
-    if last == 0 {
+    let Some(j) = last else {
+        return false;
+    };
+    let b = Record::at(r.recs, j);
+    if b.server() != r.server() {
         return false;
     }
-    let j = last - 1;
-    if words::server(recs, j) != words::server(recs, i) {
-        return false;
-    }
-    let c = words::counter(recs, i) - 1;
-    if words::kind(recs, j) == 1 {
+    let c = r.counter() - 1;
+    if b.kind() == Some(Kind::E) {
         return c == 0;
     }
-    words::counter(recs, j) == c
+    b.counter() == c
 }
 
 // Rule 5 at a B of a server that delivered c: is the next transaction of the longest, which it lacks, of an earlier epoch?
-fn lacks(recs: &[u64], space: &[u64], i: usize, c: usize, len: usize) -> bool
-    requires { Marked recs.now space.now i len }
-    ensures { result ≡ lacks_of recs.now space.now i c len }
+// `marks` has the numbers of the records at which the longest grew.
+fn lacks(r: Record, marks: &[u64], c: usize) -> bool
+    requires { Marked r.recs.now marks.now r.i (length marks.now) }
+    ensures { result ≡ lacks_of r.entry.recs.now marks.now r.entry.i c (length marks.now) }
 {
-    if len <= c {
-        return false;
-    }
-    let at = space[c] as usize;
-    words::epoch(recs, at) < words::epoch(recs, i)
+    c < marks.len() && Record::at(r.recs, marks[c] as usize).epoch() < r.epoch()
 }
 
 // A B: rules 2 and 5.
-fn at_b(recs: &[u64], space: &[u64], i: usize, s: State, last: usize) -> Told
-    requires { Ready recs.now space.now i s × (kind_of recs.now i ≡ 2) × (last ≡ latest_of recs.now (epoch_at recs.now i) i) }
-    ensures { Steps recs.now space.now i s result space.now }
+fn at_b(r: Record, space: &[u64], s: State, last: Option<usize>) -> Result<State, Rule>
+    requires { Ready r.recs.now space.now r.i s × (kind_of r.recs.now r.i ≡ 2) × (counted last ≡ latest_of r.recs.now (epoch_at r.recs.now r.i) r.i) }
+    ensures { Steps r.entry.recs.now space.now r.entry.i s result space.now }
 {
-    if !follows(recs, i, last) {
-        return Told { rule: 2, state: s };
+    if !follows(r, last) {
+        return Err(Rule::CountersRun);
     }
-    let x = words::server(recs, i) as usize;
-    if lacks(recs, space, i, s.counts[x], s.len) {
-        return Told { rule: 5, state: s };
+    let x = r.server() as usize;
+    if lacks(r, &space[..s.len], s.counts[x]) {
+        return Err(Rule::EarlierEpochs);
     }
-    let e = words::epoch(recs, i);
-    if e < s.top {
-        return Told { rule: 0, state: s };
-    }
-    let mut t = s;
-    t.top = e;
-    Told { rule: 0, state: t }
+    Ok(State {
+        top: s.top.max(r.epoch()),
+        ..s
+    })
 }
 
 // A V of server x, which delivered c, where the longest goes on with the transaction of record `at`: rules 3 and 4.
-fn inside(recs: &[u64], at: usize, i: usize, x: usize, s: State) -> Told
-    requires { Within recs.now i × (at < i) × (x < 7) × (get_or s.counts x 0 < i) × (s.seen ≤ i) }
-    ensures { result ≡ inside_of recs.now at i x s }
+fn inside(r: Record, at: usize, x: usize, s: State) -> Result<State, Rule>
+    requires { (at < r.i) × (x < 7) × (get_or s.counts x 0 < r.i) × (s.seen ≤ r.i) }
+    ensures { result ≡ inside_of r.entry.recs.now at r.entry.i x s }
 {
-    if words::same(recs, i, at) {
+    if r.same(Record::at(r.recs, at)) {
         let mut t = s;
-        t.counts[x] = s.counts[x] + 1;
-        return Told { rule: 0, state: t };
+        t.counts[x] += 1;
+        return Ok(t);
     }
-    if look::source(recs, i, s.seen) < i {
-        return Told { rule: 4, state: s };
-    }
-    Told { rule: 3, state: s }
+    look::source(r, s.seen).ok_or(Rule::EarlierB)?;
+    Err(Rule::OneBegins)
 }
 
-// Is record i above the last of the longest?
-fn rises(recs: &[u64], space: &[u64], i: usize, len: usize) -> bool
-    requires { Marked recs.now space.now i len }
-    ensures { result ≡ rises_of recs.now space.now i len }
+// Is record r above the last of the longest?
+fn rises(r: Record, marks: &[u64]) -> bool
+    requires { Marked r.recs.now marks.now r.i (length marks.now) }
+    ensures { result ≡ rises_of r.entry.recs.now marks.now r.entry.i (length marks.now) }
 {
-    if len == 0 {
-        return true;
+    match marks.last() {
+        None => true,
+        Some(at) => Record::at(r.recs, *at as usize).below(r),
     }
-    let at = space[len - 1] as usize;
-    words::below(recs, at, i)
 }
 
 // Rules 5 and 6 at a V that makes the longest longer. If a B is of a later epoch, rule 5 is broken, unless rule 6 is and the
 // longest has the transaction already. That is looked for at most once, since the record breaks a rule.
-fn late(recs: &[u64], space: &[u64], i: usize, len: usize, top: u64) -> u8
-    requires { Marked recs.now space.now i len }
-    ensures { result ≡ late_of recs.now space.now i len top }
+fn late(r: Record, marks: &[u64], top: u64) -> Result<(), Rule>
+    requires { Marked r.recs.now marks.now r.i (length marks.now) }
+    ensures { broken_of result ≡ late_of r.entry.recs.now marks.now r.entry.i (length marks.now) top }
 {
-    let e = words::epoch(recs, i);
-    if rises(recs, space, i, len) {
-        if e < top {
-            return 5;
-        }
-        return 0;
+    let e = r.epoch();
+    if rises(r, marks) {
+        return if e < top {
+            Err(Rule::EarlierEpochs)
+        } else {
+            Ok(())
+        };
     }
-    if top <= e {
-        return 6;
+    if top <= e || look::among(r, marks) {
+        return Err(Rule::VsRise);
     }
-    if look::among(recs, space, len, i) {
-        return 6;
-    }
-    5
+    Err(Rule::EarlierEpochs)
 }
 
 // A V of server x that makes the longest longer: rules 3, 5 and 6.
-fn longer(recs: &[u64], space: &mut [u64], i: usize, x: usize, s: State) -> Told
-    requires { Ready recs.now space.old i s × (kind_of recs.now i ≡ 3) × (x ≡ who_of recs.now i) × (x < 7) × (s.len ≤ get_or s.counts x 0) }
-    ensures { Steps recs.now space.old i s result space.new }
+fn longer(r: Record, space: &mut [u64], x: usize, s: State) -> Result<State, Rule>
+    requires { Ready r.recs.now space.old r.i s × (kind_of r.recs.now r.i ≡ 3) × (x ≡ who_of r.recs.now r.i) × (x < 7) × (s.len ≤ get_or s.counts x 0) }
+    ensures { Steps r.entry.recs.now space.old r.entry.i s result space.new }
 {
-    let k = look::source(recs, i, s.seen);
-    if k == i {
-        return Told { rule: 3, state: s };
-    }
-    let len = s.len;
-    let rule = late(recs, space, i, len, s.top);
-    if rule != 0 {
-        return Told { rule, state: s };
-    }
-    space[len] = i as u64;
-    let mut t = s;
-    t.counts[x] = s.counts[x] + 1;
-    t.len = len + 1;
-    t.seen = k;
-    Told { rule: 0, state: t }
+    let seen = look::source(r, s.seen).ok_or(Rule::EarlierB)?;
+    late(r, &space[..s.len], s.top)?;
+    space[s.len] = r.i as u64;
+    let mut t = State {
+        len: s.len + 1,
+        seen,
+        ..s
+    };
+    t.counts[x] += 1;
+    Ok(t)
 }
 
 // A V: rules 3 to 6.
-fn at_v(recs: &[u64], space: &mut [u64], i: usize, s: State) -> Told
-    requires { Ready recs.now space.old i s × (kind_of recs.now i ≡ 3) }
-    ensures { Steps recs.now space.old i s result space.new }
+fn at_v(r: Record, space: &mut [u64], s: State) -> Result<State, Rule>
+    requires { Ready r.recs.now space.old r.i s × (kind_of r.recs.now r.i ≡ 3) }
+    ensures { Steps r.entry.recs.now space.old r.entry.i s result space.new }
 {
-    let x = words::server(recs, i) as usize;
+    let x = r.server() as usize;
     let c = s.counts[x];
     if c < s.len {
         let at = space[c] as usize;
-        return inside(recs, at, i, x, s);
+        return inside(r, at, x, s);
     }
-    longer(recs, space, i, x, s)
+    longer(r, space, x, s)
 }
 
-// Record i; if it is an E or a B, `last` is the latest of its epoch.
-pub fn step(recs: &[u64], space: &mut [u64], i: usize, s: State, last: usize) -> Told
-    requires { Ready recs.now space.old i s × Latest recs.now i last }
-    ensures { Steps recs.now space.old i s result space.new }
+// Record r; if it is an E or a B, `last` is the latest of its epoch.
+pub fn step(r: Record, space: &mut [u64], s: State, last: Option<usize>) -> Result<State, Rule>
+    requires { Ready r.recs.now space.old r.i s × Latest r.recs.now r.i last }
+    ensures { Steps r.entry.recs.now space.old r.entry.i s result space.new }
 {
-    let k = words::kind(recs, i);
-    if k == 1 {
-        return at_e(recs, i, s, last);
+    match r.kind() {
+        Some(Kind::E) => at_e(r, s, last),
+        Some(Kind::B) => at_b(r, space, s, last),
+        Some(Kind::V) => at_v(r, space, s),
+        _ => Ok(s),
     }
-    if k == 2 {
-        return at_b(recs, space, i, s, last);
-    }
-    if k == 3 {
-        return at_v(recs, space, i, s);
-    }
-    Told { rule: 0, state: s }
 }

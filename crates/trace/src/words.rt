@@ -5,70 +5,84 @@ ghost use Rattle.std.specs.Prelude.{◌≡◌};
 ghost use Rattle.base.specs.Record.{same};
 ghost use Rattle.trace.specs.Rules.{less};
 ghost use Rattle.trace.specs.Words.{Within, kind_of, who_of, epoch_at, counter_at, value_at, entry_at};
+ghost use Rattle.trace.specs.Kinds.{Kinded};
 
 pub const WORDS: usize = 5;
 
-pub fn kind(recs: &[u64], i: usize) -> u64
-    requires { Within recs.now i }
-    ensures { result ≡ kind_of recs.now i }
-{
-    recs[WORDS * i]
+// The kinds of records, each with its number.
+#[derive(Clone, Copy, PartialEq, Eq, Debug)]
+pub enum Kind {
+    E = 1,
+    B = 2,
+    V = 3,
+    X = 4,
 }
 
-pub fn server(recs: &[u64], i: usize) -> u64
-    requires { Within recs.now i }
-    ensures { result ≡ who_of recs.now i }
-{
-    recs[WORDS * i + 1]
+// Record i of a trace, whose words are there.
+#[derive(Clone, Copy)]
+pub struct Record<'a> {
+    pub recs: &'a [u64],
+    pub i: usize,
+    ghost here: { Within recs.now i },
 }
 
-pub fn epoch(recs: &[u64], i: usize) -> u64
-    requires { Within recs.now i }
-    ensures { result ≡ epoch_at recs.now i }
-{
-    recs[WORDS * i + 2]
-}
-
-pub fn counter(recs: &[u64], i: usize) -> u64
-    requires { Within recs.now i }
-    ensures { result ≡ counter_at recs.now i }
-{
-    recs[WORDS * i + 3]
-}
-
-pub fn value(recs: &[u64], i: usize) -> u64
-    requires { Within recs.now i }
-    ensures { result ≡ value_at recs.now i }
-{
-    recs[WORDS * i + 4]
-}
-
-// Are the transactions of two records equal, in epoch, counter and value?
-pub fn same(recs: &[u64], i: usize, j: usize) -> bool
-    requires { Within recs.now i × Within recs.now j }
-    ensures { result ≡ same (entry_at recs.now i) (entry_at recs.now j) }
-{
-    if epoch(recs, i) != epoch(recs, j) {
-        return false;
+impl<'a> Record<'a> {
+    pub fn at(recs: &'a [u64], i: usize) -> Self
+        requires { Within recs.now i }
+        ensures { (result.recs.now ≡ recs.now) × (result.i ≡ i) }
+    {
+        Record { recs, i }
     }
-    if counter(recs, i) != counter(recs, j) {
-        return false;
-    }
-    value(recs, i) == value(recs, j)
-}
 
-// Is the identifier of record i below that of record j?
-pub fn below(recs: &[u64], i: usize, j: usize) -> bool
-    requires { Within recs.now i × Within recs.now j }
-    ensures { result ≡ less (entry_at recs.now i) (entry_at recs.now j) }
-{
-    let d = epoch(recs, i);
-    let e = epoch(recs, j);
-    if d < e {
-        return true;
+    // What it is; None if the number is no kind's.
+    pub fn kind(self) -> Option<Kind>
+        ensures { Kinded result (kind_of self.entry.recs.now self.entry.i) }
+    {
+        match self.recs[WORDS * self.i] {
+            1 => Some(Kind::E),
+            2 => Some(Kind::B),
+            3 => Some(Kind::V),
+            4 => Some(Kind::X),
+            _ => None,
+        }
     }
-    if d != e {
-        return false;
+
+    pub fn server(self) -> u64
+        ensures { result ≡ who_of self.entry.recs.now self.entry.i }
+    {
+        self.recs[WORDS * self.i + 1]
     }
-    counter(recs, i) < counter(recs, j)
+
+    pub fn epoch(self) -> u64
+        ensures { result ≡ epoch_at self.entry.recs.now self.entry.i }
+    {
+        self.recs[WORDS * self.i + 2]
+    }
+
+    pub fn counter(self) -> u64
+        ensures { result ≡ counter_at self.entry.recs.now self.entry.i }
+    {
+        self.recs[WORDS * self.i + 3]
+    }
+
+    pub fn value(self) -> u64
+        ensures { result ≡ value_at self.entry.recs.now self.entry.i }
+    {
+        self.recs[WORDS * self.i + 4]
+    }
+
+    // Are the transactions of two records equal, in epoch, counter and value?
+    pub fn same(self, other: Record) -> bool
+        ensures { result ≡ same (entry_at self.entry.recs.now self.entry.i) (entry_at other.entry.recs.now other.entry.i) }
+    {
+        (self.epoch(), self.counter(), self.value())
+            == (other.epoch(), other.counter(), other.value())
+    }
+
+    // Is its identifier below that of another record?
+    pub fn below(self, other: Record) -> bool
+        ensures { result ≡ less (entry_at self.entry.recs.now self.entry.i) (entry_at other.entry.recs.now other.entry.i) }
+    {
+        (self.epoch(), self.counter()) < (other.epoch(), other.counter())
+    }
 }

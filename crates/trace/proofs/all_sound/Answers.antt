@@ -1,19 +1,14 @@
-use Prim.Native.Nat.{◌-◌}
-use mathlib.Core.Path.{◌≡◌}
+use mathlib.Core.Path.{◌∙◌, refl}
 use native.Mathlib.Omega.{arith}
-use borrow.Author.Tests.{not-true, not-false}
 use borrow.Author.Rules.{rules}
-use Rattle.trace.proofs.Records.{all-no, all-on, all_end}
+use borrow.Author.Tests.{tests}
+use Rattle.std.proofs.lemmas.Iterator.{YieldsList-from_range}
+use Rattle.std.proofs.lemmas.Iterator.Search.{all_from_yields_List}
+use Rattle.base.specs.Choice.{both}
+use Rattle.trace.specs.Rules.{sound}
+use Rattle.trace.specs.Words.{rec_at, known_at}
+use Rattle.trace.proofs.Records.{all-listed}
 use Rattle.trace.proofs.all_sound.Goals as goal
 
-pub loop-i-init : goal.loop-i-init
-loop-i-init c = (search rules, (let z : c.args.count - 0 ≡ c.args.count = omega arith in rw z))
-
-pub returns-then-not-sound : goal.returns-then-not-sound
-returns-then-not-sound c = all-no c.args.n c.args.recs.now c.args.count c.loop-i.i (omega arith) c.sound.ensures (not-true c.sound.result c.if-not-sound.true-raw) c.loop-i.invariant.1
-
-pub loop-i-preserved : goal.loop-i-preserved
-loop-i-preserved c = (search rules, all-on c.args.n c.args.recs.now c.args.count c.loop-i.i (omega arith) c.sound.ensures (not-false c.sound.result c.if-not-sound.false-raw) c.loop-i.invariant.1)
-
 pub returns : goal.returns
-returns c = all_end c.args.n c.args.recs.now c.args.count c.loop-i.i (omega arith) c.loop-i.invariant.1
+returns c = all_from_yields_List (λ j. both (known_at c.args.recs.now j) (sound c.args.n (rec_at c.args.recs.now j))) _ _ _ c.all.ensures.ran (YieldsList-from_range 0 c.args.count c.args.count refl (omega arith)) (λ x b q k. search (rules, tests)) ∙ all-listed c.args.n c.args.recs.now c.args.count 0

@@ -1,20 +1,25 @@
+use Prim.Native.Nat.{◌≤◌, ◌<◌}
+use mathlib.Core.Logic.{◌⊎◌, ⊎_elim}
+use native.Mathlib.Omega.{arith}
 use Rattle.trace.proofs.Walk.{check-few, check-many, check-part, check-long, check-room, check-judged}
 use Rattle.trace.proofs.check.Goals as goal
+use Rattle.trace.proofs.check.Goals.{then-recs-ne0-via-then-recs-ne0, then-recs-ne0-via-else-recs-ne0+then-count-gt1024, then-recs-ne0-via-else-recs-ne0+else-count-gt1024+then-space-count}
 
-pub returns-then-n-lt3 : goal.returns-then-n-lt3
-returns-then-n-lt3 c = check-few _ _ _ c.if-n-lt3.true
-
-pub returns-then-n-gt7 : goal.returns-then-n-gt7
-returns-then-n-gt7 c = check-many _ _ _ c.if-n-gt7.true
+pub returns-then-not-contains : goal.returns-then-not-contains
+returns-then-not-contains c =
+    let h : (c.args.n < 3) ⊎ (7 < c.args.n) = grind arith in
+    ⊎_elim (check-few _ _ _) (check-many _ _ _) h
 
 pub returns-then-recs-ne0 : goal.returns-then-recs-ne0
-returns-then-recs-ne0 c = check-part _ _ _ c.if-recs-ne0.true
-
-pub returns-then-count-gt1024 : goal.returns-then-count-gt1024
-returns-then-count-gt1024 c = check-long _ _ _ c.if-n-lt3.false c.if-n-gt7.false c.if-count-gt1024.true
-
-pub returns-then-space-count : goal.returns-then-space-count
-returns-then-space-count c = check-room _ _ _ c.if-space-count.true
+returns-then-recs-ne0 c =
+    let h : (3 ≤ c.args.n) × (c.args.n ≤ 7) = grind arith in
+    elim c.then-recs-ne0.branch [
+      | then-recs-ne0-via-then-recs-ne0 w ↦ check-part _ _ _ w.if-recs-ne0.true
+      | then-recs-ne0-via-else-recs-ne0+then-count-gt1024 w ↦ check-long _ _ _ h.0 h.1 w.if-count-gt1024.true
+      | then-recs-ne0-via-else-recs-ne0+else-count-gt1024+then-space-count w ↦ check-room _ _ _ w.if-space-count.true
+    ]
 
 pub returns : goal.returns
-returns c = check-judged _ _ _ c.if-n-lt3.false c.if-n-gt7.false c.if-recs-ne0.false c.if-count-gt1024.false c.if-space-count.false c.judge.ensures
+returns c =
+    let h : (3 ≤ c.args.n) × (c.args.n ≤ 7) = grind arith in
+    check-judged _ _ _ h.0 h.1 c.if-recs-ne0.false c.if-count-gt1024.false c.if-space-count.false c.judge.ensures

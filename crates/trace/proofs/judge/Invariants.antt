@@ -1,11 +1,7 @@
-use Prim.Native.Nat.{◌-◌, ◌≤◌}
 use mathlib.Core.Path.{◌≡◌}
 use lib.ListN.{length}
 use Rattle.trace.proofs.Walk.{Running}
 use Rattle.trace.proofs.judge.Given as goal
 
 abbrev pub invariant-loop-i : goal.invariant-loop-i
-invariant-loop-i l = (l.i ≤ l.count) × (length l.space ≡ length l.initial.space) × Running l.n l.recs l.initial.space l.count l.space l.s l.i l.nodes
-
-abbrev pub decreases-loop-i : goal.decreases-loop-i
-decreases-loop-i l = l.count - l.i
+invariant-loop-i l = (length l.space ≡ length l.initial.space) × Running l.n l.recs l.initial.space l.count l.space l.s l.i l.nodes

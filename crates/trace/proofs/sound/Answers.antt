@@ -1,23 +1,46 @@
-use Rattle.trace.proofs.Records.{sound-x, sound-0, sound-5, sound-who, sound-ep, sound-e, sound-ct}
+use Prim.Native.Nat.{◌≤◌}
+use mathlib.Core.Path.{◌≡◌, sym, ◌∙◌}
+use mathlib.Core.Bool.{true, false}
+use native.Mathlib.Omega.{arith}
+use lib.Dec.{eqb}
+use borrow.Author.Rules.{rules}
+use Rattle.base.proofs.Choice.{decide}
+use Rattle.base.specs.Choice.{both, either}
+use Rattle.trace.specs.Words.{kind_of}
+use Rattle.trace.specs.declared.words.Kind.TheVariants.{E}
+use Rattle.trace.proofs.Kind.{kind-eq}
+use Rattle.trace.proofs.Records.{sound-x, sound-none, sound-as}
 use Rattle.trace.proofs.sound.Goals as goal
+use Rattle.trace.proofs.sound.Goals.{then-server-from, else-server-from}
 
-pub returns-then-k-eq4 : goal.returns-then-k-eq4
-returns-then-k-eq4 c = sound-x c.args.n c.args.recs.now c.args.i c.kind-k.ensures c.if-k-eq4.true
+pub returns-in-None : goal.returns-in-None
+returns-in-None c = sound-none c.args.n c.args.r.recs.now c.args.r.i c.in-None.ensures
 
-pub returns-then-k-eq0 : goal.returns-then-k-eq0
-returns-then-k-eq0 c = sound-0 c.args.n c.args.recs.now c.args.i c.kind-k.ensures c.if-k-eq0.true
+pub returns-in-Some-X : goal.returns-in-Some-X
+returns-in-Some-X c = sound-x c.args.n c.args.r.recs.now c.args.r.i (rw c.in-Some-X.field-0-is at c.in-Some-X.ensures)
 
-pub returns-then-k-gt4 : goal.returns-then-k-gt4
-returns-then-k-gt4 c = sound-5 c.args.n c.args.recs.now c.args.i c.kind-k.ensures c.if-k-gt4.true
+pub returns-then-eq : goal.returns-then-eq
+unfolding both either
+returns-then-eq c =
+    let low : 1 ≤ kind_of c.args.r.recs.now c.args.r.i = grind arith in
+    let high : kind_of c.args.r.recs.now c.args.r.i ≤ 3 = grind arith in
+    let e : eqb (kind_of c.args.r.recs.now c.args.r.i) 1 ≡ true = sym (kind-eq c.in-Some.k E _ c.in-Some.ensures) ∙ sym c.eq.ensures ∙ c.if-eq.true in
+    rw (sound-as c.args.n c.args.r.recs.now c.args.r.i low high, e)
+    (elim c.if-server-from.branch [ then-server-from w ↦ search (decide, rules) | else-server-from w ↦ search (decide, rules) ])
 
-pub returns-then-n-server : goal.returns-then-n-server
-returns-then-n-server c = sound-who c.args.n c.args.recs.now c.args.i c.kind-k.ensures c.if-k-eq4.false c.if-k-eq0.false c.if-k-gt4.false c.server.ensures c.if-n-server.true
+pub returns-else-eq : goal.returns-else-eq
+unfolding both either
+returns-else-eq c =
+    let low : 1 ≤ kind_of c.args.r.recs.now c.args.r.i = grind arith in
+    let high : kind_of c.args.r.recs.now c.args.r.i ≤ 3 = grind arith in
+    let e : eqb (kind_of c.args.r.recs.now c.args.r.i) 1 ≡ false = sym (kind-eq c.in-Some.k E _ c.in-Some.ensures) ∙ sym c.eq.ensures ∙ c.if-eq.false in
+    rw (sound-as c.args.n c.args.r.recs.now c.args.r.i low high, e)
+    (elim c.if-server-from.branch [ then-server-from w ↦ search (decide, rules) | else-server-from w ↦ search (decide, rules) ])
 
-pub returns-then-epoch-eq0 : goal.returns-then-epoch-eq0
-returns-then-epoch-eq0 c = sound-ep c.args.n c.args.recs.now c.args.i c.kind-k.ensures c.if-k-eq4.false c.if-k-eq0.false c.if-k-gt4.false c.server.ensures c.if-n-server.false c.epoch.ensures c.if-epoch-eq0.true
-
-pub returns-then-k-eq1 : goal.returns-then-k-eq1
-returns-then-k-eq1 c = sound-e c.args.n c.args.recs.now c.args.i c.kind-k.ensures c.if-k-eq4.false c.if-k-eq0.false c.if-k-gt4.false c.server.ensures c.if-n-server.false c.epoch.ensures c.if-epoch-eq0.false c.if-k-eq1.true
-
-pub returns : goal.returns
-returns c = sound-ct c.args.n c.args.recs.now c.args.i c.kind-k.ensures c.if-k-eq4.false c.if-k-eq0.false c.if-k-gt4.false c.server.ensures c.if-n-server.false c.epoch.ensures c.if-epoch-eq0.false c.if-k-eq1.false c.counter.ensures
+pub returns-else-epoch-ne0 : goal.returns-else-epoch-ne0
+unfolding both either
+returns-else-epoch-ne0 c =
+    let low : 1 ≤ kind_of c.args.r.recs.now c.args.r.i = grind arith in
+    let high : kind_of c.args.r.recs.now c.args.r.i ≤ 3 = grind arith in
+    rw (sound-as c.args.n c.args.r.recs.now c.args.r.i low high)
+    (elim c.if-server-from.branch [ then-server-from w ↦ search (decide, rules) | else-server-from w ↦ search (decide, rules) ])

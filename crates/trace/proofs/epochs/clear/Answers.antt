@@ -1,23 +1,15 @@
-use mathlib.Core.Path.{refl}
+use Prim.Native.Nat.{◌-◌, ◌*◌}
+use mathlib.Core.Path.{◌≡◌, ap, ◌∙◌}
+use Prim.Native.Nat.{ℕ}
 use native.Mathlib.Omega.{arith}
-use lib.ListN.{length-set}
-use Rattle.trace.proofs.Lookup.{clear_zero, clear_kept, clear-end}
+use lib.ListN.{length, take, drop, replicate, length-drop, length-replicate}
+use lib.Seq.{length-take-le}
+use Rattle.std.proofs.lemmas.Slice.{put_mid-paste}
+use Rattle.trace.proofs.Lookup.{cleared-paste}
 use Rattle.trace.proofs.epochs.clear.Goals as goal
 
-pub loop-k-init : goal.loop-k-init
-loop-k-init c = (omega arith, omega arith, refl, refl, λ m a b. absurd (omega arith))
-
-pub bounds-space-k : goal.bounds-space-k
-bounds-space-k c = omega (arith, c.loop-k.invariant, c.requires)
-
-pub overflow_add-k : goal.overflow_add-k
-overflow_add-k c = omega (arith, c.loop-k.invariant, c.requires)
-
-pub loop-k-smaller : goal.loop-k-smaller
-loop-k-smaller c = omega (arith, c.loop-k.invariant)
-
-pub loop-k-preserved : goal.loop-k-preserved
-loop-k-preserved c = (omega (arith, c.loop-k.invariant), omega (arith, c.loop-k.invariant), simp length-set (omega (arith, c.loop-k.invariant)), clear_kept c.args.count c.loop-k.space c.args.space.now c.loop-k.k c.loop-k.invariant.0 (omega arith) (omega (arith, c.loop-k.invariant.2, c.requires)) c.loop-k.invariant.3, clear_zero c.args.count c.loop-k.space c.loop-k.k (omega (arith, c.loop-k.invariant, c.requires)) c.loop-k.invariant.4)
-
 pub returns : goal.returns
-returns c = clear-end c.args.count c.loop-k.space c.args.space.now c.loop-k.k (omega arith) (omega (arith, c.loop-k.invariant.2, c.requires)) c.loop-k.invariant.4 c.loop-k.invariant.3
+returns c =
+    let l : length (take (4 * c.args.count - c.args.count) (drop c.args.count c.args.space.now)) ≡ 3 * c.args.count = omega (arith, length-take-le (4 * c.args.count - c.args.count) (drop c.args.count c.args.space.now) (omega (arith, length-drop c.args.count c.args.space.now))) in
+    put_mid-paste c.args.count (4 * c.args.count - c.args.count) c.args.space.now c.fill.new.self (replicate (3 * c.args.count) 0) (3 * c.args.count) (c.fill.ensures.after (λ y q. q) ∙ ap (λ (k : ℕ). replicate k 0) l) (omega arith) (omega (arith, length-replicate {A = ℕ} (3 * c.args.count) 0))
+    ∙ cleared-paste c.args.count c.args.space.now

@@ -6,26 +6,17 @@ use Rattle.trace.specs.Table.{cell, spot}
 use Rattle.trace.proofs.Lookup.{walk_end, walk_none, walk-low, walk-on, far-start, far-on, far-end}
 use Rattle.trace.proofs.epochs.walk.Goals as goal
 
-pub loop-left-init : goal.loop-left-init
-loop-left-init c = (c.requires.1, far-start c.args.recs.now (cell c.args.space.now c.args.count) c.args.count c.args.e c.requires.0.links, (let z : c.args.count - 0 ≡ c.args.count = omega arith in ap (λ (n : ℕ). spot c.args.recs.now (cell c.args.space.now c.args.count) c.args.e n 0 c.args.e) z))
-
-pub ends-requires : goal.ends-requires
-ends-requires c = (c.requires.0, c.loop-left.invariant.0)
+pub loop-init : goal.loop-init
+loop-init c = (c.requires.1, far-start c.args.recs.now (cell c.args.space.now c.args.count) c.args.count c.args.e c.requires.0.links, (let z : c.args.count - 0 ≡ c.args.count = omega arith in ap (λ (n : ℕ). spot c.args.recs.now (cell c.args.space.now c.args.count) c.args.e n 0 c.args.e) z))
 
 pub returns-then-ends : goal.returns-then-ends
-returns-then-ends c = walk_end c.args.recs.now (cell c.args.space.now c.args.count) c.args.count c.args.e c.loop-left.j c.loop-left.rest c.requires.0.links c.loop-left.invariant.0 c.ends.ensures c.loop-left.invariant.2 c.if-ends.true
-
-pub overflow_add-child : goal.overflow_add-child
-overflow_add-child c = omega (arith, c.requires.0.room)
-
-pub bounds-space-count : goal.bounds-space-count
-bounds-space-count c = omega (arith, c.requires.0.room)
+returns-then-ends c = walk_end c.args.recs.now (cell c.args.space.now c.args.count) c.args.count c.args.e c.loop.j c.loop.rest c.requires.0.links c.loop.invariant.0 c.ends.ensures c.loop.invariant.2 c.if-ends.true
 
 pub returns-then-child-eq0 : goal.returns-then-child-eq0
-returns-then-child-eq0 c = walk_none c.args.recs.now (cell c.args.space.now c.args.count) c.args.count c.args.e c.loop-left.j c.loop-left.rest c.requires.0.links c.loop-left.invariant.0 c.ends.ensures c.loop-left.invariant.2 c.if-ends.false refl c.if-child-eq0.true
+returns-then-child-eq0 c = walk_none c.args.recs.now (cell c.args.space.now c.args.count) c.args.count c.args.e c.loop.j c.loop.rest c.requires.0.links c.loop.invariant.0 c.ends.ensures c.loop.invariant.2 c.if-ends.false refl c.if-child-eq0.true
 
-pub loop-left-preserved : goal.loop-left-preserved
-loop-left-preserved c = (walk-low c.args.recs.now (cell c.args.space.now c.args.count) c.args.count c.args.e c.loop-left.j c.loop-left.rest c.requires.0.links c.loop-left.invariant.0 c.ends.ensures c.loop-left.invariant.2 refl c.if-child-eq0.false, far-on c.args.recs.now (cell c.args.space.now c.args.count) c.args.count c.args.e c.loop-left.j c.loop-left.rest c.loop-left.left c.requires.0.links c.loop-left.invariant.0 c.loop-left.invariant.1 c.loop-left-test.true c.if-child-eq0.false, walk-on c.args.recs.now (cell c.args.space.now c.args.count) c.args.count c.args.e c.loop-left.j c.loop-left.rest c.requires.0.links c.loop-left.invariant.0 c.ends.ensures c.loop-left.invariant.2 c.if-ends.false refl c.if-child-eq0.false)
+pub loop-preserved : goal.loop-preserved
+loop-preserved c = (walk-low c.args.recs.now (cell c.args.space.now c.args.count) c.args.count c.args.e c.loop.j c.loop.rest c.requires.0.links c.loop.invariant.0 c.ends.ensures c.loop.invariant.2 refl c.if-child-eq0.false, far-on c.args.recs.now (cell c.args.space.now c.args.count) c.args.count c.args.e c.loop.j c.loop.rest c.loop.counter c.requires.0.links c.loop.invariant.0 c.loop.invariant.1 c.if-child-eq0.false, walk-on c.args.recs.now (cell c.args.space.now c.args.count) c.args.count c.args.e c.loop.j c.loop.rest c.requires.0.links c.loop.invariant.0 c.ends.ensures c.loop.invariant.2 c.if-ends.false refl c.if-child-eq0.false)
 
 pub returns : goal.returns
-returns c = walk_end c.args.recs.now (cell c.args.space.now c.args.count) c.args.count c.args.e c.loop-left.j c.loop-left.rest c.requires.0.links c.loop-left.invariant.0 (far-end c.args.recs.now (cell c.args.space.now c.args.count) c.args.count c.args.e c.loop-left.j c.loop-left.rest c.loop-left.left c.requires.0.links c.loop-left.invariant.0 c.loop-left.invariant.1 c.requires.0.deep c.loop-left-test.false (omega (arith, c.ranges)) (omega (arith, c.shared_slice_known-1.given (5 * (get_or c.args.space.now (c.args.count + 3 * c.loop-left.j) 0 - 1) + 2)))) c.loop-left.invariant.2 refl
+returns c = walk_end c.args.recs.now (cell c.args.space.now c.args.count) c.args.count c.args.e c.loop.j c.loop.rest c.requires.0.links c.loop.invariant.0 (far-end c.args.recs.now (cell c.args.space.now c.args.count) c.args.count c.args.e c.loop.j c.loop.rest c.loop.counter c.requires.0.links c.loop.invariant.0 c.loop.invariant.1 c.requires.0.deep (omega arith) (omega (arith, c.ranges)) (omega (arith, c.shared_slice_known-1.given (5 * (get_or c.args.space.now (c.args.count + 3 * c.loop.j) 0 - 1) + 2)))) c.loop.invariant.2 refl

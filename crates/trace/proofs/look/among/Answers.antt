@@ -1,23 +1,18 @@
-use Prim.Native.Nat.{◌-◌}
-use mathlib.Core.Path.{refl}
-use native.Mathlib.Omega.{arith}
+use mathlib.Core.Path.{◌∙◌, sym}
 use borrow.Author.Rules.{rules}
-use Rattle.trace.specs.Words.{entry_at}
-use Rattle.trace.proofs.Leaf.{mark-within}
-use Rattle.trace.proofs.Records.{among-yes, among-on, among-end}
+use borrow.Author.Tests.{tests}
+use Rattle.std.proofs.lemmas.Iterator.{YieldsList-from_slice}
+use Rattle.std.proofs.lemmas.Iterator.Adapters.{serves_from_places}
+use Rattle.std.proofs.lemmas.Iterator.Search.{any_from_yields_List}
+use Rattle.base.specs.Record.{same}
+use Rattle.trace.specs.Words.{Within, entry_at}
+use Rattle.trace.proofs.Leaf.{place-within}
+use Rattle.trace.proofs.Records.{mem-listed}
 use Rattle.trace.proofs.look.among.Goals as goal
 
-pub loop-k-init : goal.loop-k-init
-loop-k-init c = (search rules, refl)
-
-pub same-requires : goal.same-requires
-same-requires c = (search rules, mark-within c.args.recs.now c.args.space.now c.args.i (c.loop-k.k - 1) c.args.len c.requires.0 c.requires.2 (omega arith))
-
-pub returns-then-same : goal.returns-then-same
-returns-then-same c = among-yes c.args.recs.now c.args.space.now (entry_at c.args.recs.now c.args.i) c.loop-k.k (omega arith) (omega arith) c.same.ensures c.if-same.true c.loop-k.invariant.1
-
-pub loop-k-preserved : goal.loop-k-preserved
-loop-k-preserved c = (search rules, among-on c.args.recs.now c.args.space.now (entry_at c.args.recs.now c.args.i) c.loop-k.k (omega arith) (omega arith) c.same.ensures c.if-same.false c.loop-k.invariant.1)
+pub any-requires-clause-callable : goal.any-requires-clause-callable
+any-requires-clause-callable c = serves_from_places (YieldsList-from_slice c.args.marks.now cc) (λ x q k. search (rules, tests))
+    (λ x k l e. let h : Within c.args.r.recs.now x.now = place-within c.args.r.recs.now c.args.marks.now c.args.r.i k x.now c.args.r.here c.requires.2 l e in search rules)
 
 pub returns : goal.returns
-returns c = among-end c.args.recs.now c.args.space.now (entry_at c.args.recs.now c.args.i) c.loop-k.k (omega arith) c.loop-k.invariant.1
+returns c = any_from_yields_List (λ j. same (entry_at c.args.r.recs.now c.args.r.i) (entry_at c.args.r.recs.now j)) _ _ _ c.any.ensures.ran (YieldsList-from_slice c.args.marks.now cc) (λ x b q k. search (rules, tests)) ∙ sym (mem-listed c.args.r.recs.now (entry_at c.args.r.recs.now c.args.r.i) c.args.marks.now)

@@ -1,16 +1,11 @@
-use mathlib.Core.Path.{sym, ◌∙◌}
+use Prim.Native.Nat.{◌<◌}
 use native.Mathlib.Omega.{arith}
+use Rattle.trace.specs.Words.{kind_of}
 use Rattle.trace.proofs.Laws.{x-on}
 use Rattle.trace.proofs.step.step.Goals as goal
 
-pub at_e-requires : goal.at_e-requires
-at_e-requires c = (c.requires.0.here, sym c.kind-k.ensures ∙ c.if-k-eq1.true, c.requires.1 (omega (arith, c.kind-k.ensures)))
+pub returns-in_default : goal.returns-in_default
+returns-in_default c = let h : 3 < kind_of c.args.r.recs.now c.args.r.i = grind arith in λ n H g. x-on _ _ _ _ _ H g (λ e. omega arith) (λ e. omega arith) (λ e. omega arith)
 
-pub returns-then-k-eq1 : goal.returns-then-k-eq1
-returns-then-k-eq1 c = λ n H g. c.at_e.ensures _ n H g
-
-pub at_b-requires : goal.at_b-requires
-at_b-requires c = (c.requires.0, sym c.kind-k.ensures ∙ c.if-k-eq2.true, c.requires.1 (omega (arith, c.kind-k.ensures)))
-
-pub returns : goal.returns
-returns c = λ n H g. x-on _ _ _ _ _ H g c.kind-k.ensures c.if-k-eq1.false c.if-k-eq2.false c.if-k-eq3.false
+pub returns-in_default-2 : goal.returns-in_default-2
+returns-in_default-2 c = let h = rw c.in_default.is at c.kind.ensures in λ n H g. x-on _ _ _ _ _ H g (λ e. omega (arith, h)) (λ e. omega (arith, h)) (λ e. omega (arith, h))
