@@ -1,5 +1,5 @@
 -- The words that are lent fit the sizes.
-use Prim.Native.Nat.{ℕ, ◌-◌, ◌*◌, ◌≤◌}
+use Prim.Native.Nat.{ℕ, ◌*◌, ◌≤◌}
 use mathlib.Core.Path.{◌≡◌, refl}
 use mathlib.Core.Bool.{true}
 use native.Mathlib.Omega.{arith}
@@ -33,8 +33,7 @@ words-fit n h k q o a b hs ks qs os = fit-shown (sizes_of n) 2 h k q o (record {
 })
 
 -- how many words are lent, of k zeros from the first on
-pub lent : (k m : ℕ) → m ≤ k → length (take (m - 0) (replicate {A = ℕ} k 0)) ≡ m
+pub lent : (k m : ℕ) → m ≤ k → length (take m (replicate {A = ℕ} k 0)) ≡ m
 lent k m l =
     let e : length (replicate {A = ℕ} k 0) ≡ k = length-replicate k 0 in
-    let t = length-take-le (m - 0) (replicate {A = ℕ} k 0) (omega arith) in
-    omega arith
+    length-take-le m (replicate {A = ℕ} k 0) (omega arith)

@@ -11,11 +11,6 @@ use base::{Place, Sizes};
 use pledge::Calmed;
 use std::io;
 
-// Two numbers on a line.
-fn print_pair(rt: &impl Print, a: u64, b: u64) -> io::Result<()> {
-    println!(rt; "{a} {b}")
-}
-
 // A fresh cluster of these sizes on the lent words, and its calm run with x as leader.
 fn calm_run<'a>(
     z: Sizes,
@@ -41,31 +36,30 @@ fn calm_of(n: u8) -> Calmed
     let mut queue = [0u64; 1176];
     let mut out = [0u64; 78];
     let room = Place(4);
-    let z = Sizes { n: n, room: room };
-    let k = n as usize;
+    let z = Sizes { n, room };
+    let k = usize::from(n);
     calm_run(
         z,
         n - 1,
-        &mut hists[0..8 * k],
-        &mut cands[0..8 * k],
-        &mut queue[0..24 * k * k],
+        &mut hists[..8 * k],
+        &mut cands[..8 * k],
+        &mut queue[..24 * k * k],
         &mut out,
     )
 }
 
-// Its two numbers.
+// Its two numbers, on a line.
 fn print_of(rt: &impl Print, n: u8) -> io::Result<()>
     requires { (3 ≤ n) × (n ≤ 7) }
 {
     let t = calm_of(n);
-    print_pair(rt, t.first as u64, t.second as u64)
+    println!(rt; "{} {}", t.first, t.second)
 }
 
 // Three to seven servers.
 fn main(rt: HostRuntime) -> io::Result<()> {
-    print_of(&rt, 3)?;
-    print_of(&rt, 4)?;
-    print_of(&rt, 5)?;
-    print_of(&rt, 6)?;
-    print_of(&rt, 7)
+    for n in 3..=7 {
+        print_of(&rt, n)?;
+    }
+    Ok(())
 }

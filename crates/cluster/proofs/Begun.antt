@@ -1,4 +1,6 @@
 -- A fresh cluster: what the rules start with, and well formed.
+use Rattle.std.specs.Prelude.{Ok, Err}
+use Rattle.base.specs.declared.Refusal.TheVariants.{State as StateR}
 use Prim.Native.Nat.{ℕ, zero, suc, ◌-◌, ◌*◌, ◌≤◌, ◌<◌}
 use mathlib.Core.Path.{◌≡◌, refl, sym, ap, ◌∙◌}
 use mathlib.Core.Logic.{inl, inr, ⊎_elim}
@@ -144,7 +146,7 @@ module _ (z : Sizes) (depth h k q : ℕ) (o : List ℕ) (f : Fits z depth h k q 
       }
 
 pub fresh-refused : (z : Sizes) (depth : ℕ) (h k q o : List ℕ) (b : Bool) (c : Cluster) → b ≡ good_fresh z depth h k q o → b ≡ false → c ≡ fresh_of z depth
-    → Freshly z depth h k q o (record { code = 1; cluster = c }) h k q
+    → Freshly z depth h k q o (record { answer = Err StateR; cluster = c }) h k q
 unfolding pick
 fresh-refused z depth h k q o b c e f g =
     let t : good_fresh z depth h k q o ≡ false = sym e ∙ f in
@@ -159,7 +161,7 @@ fresh-refused z depth h k q o b c e f g =
     }
 
 pub fresh-does : (z : Sizes) (depth : ℕ) (h k q o h' k' q' : List ℕ) (b : Bool) (c : Cluster) → b ≡ good_fresh z depth h k q o → b ≡ true → c ≡ fresh_of z depth
-    → h' ≡ zeros (length h - 0) → k' ≡ zeros (length k - 0) → q' ≡ zeros (length q - 0) → Freshly z depth h k q o (record { code = 0; cluster = c }) h' k' q'
+    → h' ≡ zeros (length h - 0) → k' ≡ zeros (length k - 0) → q' ≡ zeros (length q - 0) → Freshly z depth h k q o (record { answer = Ok tt; cluster = c }) h' k' q'
 unfolding pick
 fresh-does z depth h k q o h' k' q' b c e f g x y v =
     let t : good_fresh z depth h k q o ≡ true = sym e ∙ f in

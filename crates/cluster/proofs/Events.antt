@@ -1,4 +1,6 @@
 -- Any event: STATE, or what the turn did.
+use Rattle.std.specs.Prelude.{Err}
+use Rattle.base.specs.declared.Refusal.TheVariants.{State as StateR}
 use Prim.Native.Nat.{ℕ}
 use mathlib.Core.Path.{◌≡◌, refl, sym, ◌∙◌}
 use mathlib.Core.Bool.{Bool, true, false}
@@ -15,7 +17,7 @@ use Rattle.site.specs.declared.Told.{Told}
 use Rattle.site.proofs.Goods.{good-shown}
 
 pub happens-refused : (c : Cluster) (e : Event) (h k q o : List ℕ) (b : Bool) → b ≡ good_site c.sizes c.depth (site_of c h k q o) → b ≡ false
-    → Happens c e h k q o (record { code = 1; cluster = c }) h k q o
+    → Happens c e h k q o (record { answer = Err StateR; cluster = c }) h k q o
 unfolding whole_event pick
 happens-refused c e h k q o b x f =
     let n : good_site c.sizes c.depth (site_of c h k q o) ≡ false = sym x ∙ f in

@@ -1,7 +1,7 @@
 -- Any event, and a fresh cluster: whole answers.
 use Rattle.std.specs.Prelude.{ℕ, ◌≡◌, Bool, true, List, length, replicate}
 use Rattle.base.specs.Choice.{pick}
-use Rattle.base.specs.Refusals.{STATE}
+use Rattle.base.specs.Refusals.{code_of, STATE}
 use Rattle.base.specs.declared.Sizes.{Sizes}
 use Rattle.rules.specs.Server.{fresh}
 use Rattle.rules.specs.Cluster.{Event, start, event}
@@ -37,7 +37,7 @@ good_fresh z depth h k q o = fitting z depth (length h) (length k) (length q) (l
 
 -- all words zero, or STATE and every word as it was; the outbox is not written
 pub record Freshly (z : Sizes) (depth : ℕ) (h k q o : List ℕ) (t : Told) (h' k' q' : List ℕ) : Type 0 where
-  pub code : t.code ≡ pick (good_fresh z depth h k q o) 0 STATE
+  pub code : code_of t.answer ≡ pick (good_fresh z depth h k q o) 0 STATE
   pub cluster : t.cluster ≡ fresh_of z depth
   pub hists : h' ≡ pick (good_fresh z depth h k q o) (zeros (length h)) h
   pub cands : k' ≡ pick (good_fresh z depth h k q o) (zeros (length k)) k

@@ -6,7 +6,7 @@ mod start;
 ghost use Rattle.turn.specs.Events.{meant};
 ghost use Rattle.cluster.specs.Any.{Happens, Freshly};
 
-use base::Sizes;
+use base::{Refusal, Sizes};
 use site::{Cluster, Told};
 use turn::Happening;
 
@@ -23,7 +23,7 @@ pub fn event<'a>(
 {
     if !site::good(c, hists, cands, queue, out) {
         return Told {
-            code: 1,
+            answer: Err(Refusal::State),
             cluster: c,
         };
     }
@@ -44,7 +44,7 @@ pub fn fresh(
     let c = start::fresh_cluster(z, depth);
     if !site::may_lend(z, depth, hists.len(), cands.len(), queue.len(), out.len()) {
         return Told {
-            code: 1,
+            answer: Err(Refusal::State),
             cluster: c,
         };
     }
@@ -52,7 +52,7 @@ pub fn fresh(
     words::clear_from(cands, 0);
     words::clear_from(queue, 0);
     Told {
-        code: 0,
+        answer: Ok(()),
         cluster: c,
     }
 }

@@ -1,4 +1,5 @@
 -- The calm run of the code: naming, settling, a submission and settling again, one after the other.
+use Rattle.base.specs.Refusals.{code_of, STATE}
 use Prim.Native.Nat.{ℕ, ◌≤◌}
 use mathlib.Core.Path.{◌≡◌, refl, sym, ap, ◌∙◌, subst}
 use mathlib.Core.Bool.{Bool, true, false}
@@ -6,7 +7,6 @@ use mathlib.Core.List.{List}
 use lib.ListN.{length}
 use borrow.Author.Tests.{eqb-true}
 use Rattle.base.specs.Choice.{pick, both}
-use Rattle.base.specs.Refusals.{STATE}
 use Rattle.base.specs.declared.Sizes.{Sizes}
 use Rattle.base.proofs.Choice.{clash, both_true}
 use Rattle.rules.proofs.WellFormed.{sized}
@@ -77,13 +77,13 @@ settle-went z depth c h k q o t h' k' q' o' a b r =
 
 -- the submission
 pub submit-did : (z : Sizes) (depth : ℕ) (c : Cluster) (x v : ℕ) (h k q o : List ℕ) (t : Told) (h' k' q' o' : List ℕ) → c.sizes ≡ z → c.depth ≡ depth
-    → Happens c (meant c.sizes (happens.Submit x v)) h k q o t h' k' q' o' → Did z depth (site_of c h k q o) (S x v) t.code (site_of t.cluster h' k' q' o')
+    → Happens c (meant c.sizes (happens.Submit x v)) h k q o t h' k' q' o' → Did z depth (site_of c h k q o) (S x v) (code_of t.answer) (site_of t.cluster h' k' q' o')
 unfolding meant whole_event pick
 submit-did z depth c x v h k q o t h' k' q' o' a b r =
     let w = site_of c h k q o in
     let w' = site_of t.cluster h' k' q' o' in
-    subst (λ (y : ℕ). Did z y w (S x v) t.code w') b
-    (subst (λ (y : Sizes). Did y c.depth w (S x v) t.code w') a
+    subst (λ (y : ℕ). Did z y w (S x v) (code_of t.answer) w') b
+    (subst (λ (y : Sizes). Did y c.depth w (S x v) (code_of t.answer) w') a
     (record {
       yes = λ e. record { code = r.leaves.code ∙ rw e; site = r.leaves.site ∙ rw e; rules = r.rules e; good = r.good e };
       not = λ e. (r.leaves.code ∙ rw e, r.leaves.site ∙ rw e);
@@ -120,7 +120,7 @@ naming-went c x ws h k q o t h' k' q' o' p r =
 module _ (z : Sizes) (depth : ℕ) (w w₁ w₂ w₃ w₄ : Site) (x v : ℕ) (t : Calmed) where
   calm-refused : t.cluster.sizes ≡ z → t.cluster.depth ≡ depth → good_site z depth w ≡ false
       → Went z depth w (names z x) t.named w₁ → Went z depth w₁ (settling z depth w₁) t.first w₂
-      → Did z depth w₂ (S x v) t.code w₃ → Went z depth w₃ (settling z depth w₃) t.second w₄ → Calms z depth w x v t w₄
+      → Did z depth w₂ (S x v) (code_of t.answer) w₃ → Went z depth w₃ (settling z depth w₃) t.second w₄ → Calms z depth w x v t w₄
   unfolding pick
   calm-refused s d e a b f g =
       let a' = a.not e in
@@ -145,7 +145,7 @@ module _ (z : Sizes) (depth : ℕ) (w w₁ w₂ w₃ w₄ : Site) (x v : ℕ) (t
       }
 
   module _ (a : Gone z depth w (names z x) t.named w₁) (b : Gone z depth w₁ (settling z depth w₁) t.first w₂)
-      (f : Done z depth w₂ (S x v) t.code w₃) (g : Gone z depth w₃ (settling z depth w₃) t.second w₄) where
+      (f : Done z depth w₂ (S x v) (code_of t.answer) w₃) (g : Gone z depth w₃ (settling z depth w₃) t.second w₄) where
     is-renamed : w₁ ≡ renamed z depth w x
     unfolding renamed
     is-renamed = a.site
@@ -158,7 +158,7 @@ module _ (z : Sizes) (depth : ℕ) (w w₁ w₂ w₃ w₄ : Site) (x v : ℕ) (t
     unfolding submission
     is-submitted = f.site ∙ ap (λ (y : Site). (event_of z depth y (S x v)).site) is-regained
 
-    told-code : t.code ≡ (submission z depth w x v).code
+    told-code : (code_of t.answer) ≡ (submission z depth w x v).code
     unfolding submission
     told-code = f.code ∙ ap (λ (y : Site). (event_of z depth y (S x v)).code) is-regained
 
@@ -174,15 +174,15 @@ module _ (z : Sizes) (depth : ℕ) (w w₁ w₂ w₃ w₄ : Site) (x v : ℕ) (t
     to-rested = b.rules ∙ ap (λ (c : Servers). play z depth c (settles z depth c)) to_turned
 
     to-begun : cluster_of z depth w₃ ≡ begun z depth x v (cluster_of z depth w)
-    to-begun = sym (ap after f.rules ∙ outcome-after z depth (S x v) w₂ (record { code = t.code; site = w₃ })) ∙ ap (λ (c : Servers). after (event z depth c (S x v))) to-rested
+    to-begun = sym (ap after f.rules ∙ outcome-after z depth (S x v) w₂ (record { code = (code_of t.answer); site = w₃ })) ∙ ap (λ (c : Servers). after (event z depth c (S x v))) to-rested
 
     to-ended : cluster_of z depth w₄ ≡ ended z depth x v (cluster_of z depth w)
     to-ended = g.rules ∙ ap (λ (c : Servers). play z depth c (settles z depth c)) to-begun
 
-    taken-zero : is_done (event z depth (rested z depth x (cluster_of z depth w)) (S x v)) ≡ true → t.code ≡ 0
+    taken-zero : is_done (event z depth (rested z depth x (cluster_of z depth w)) (S x v)) ≡ true → (code_of t.answer) ≡ 0
     taken-zero e =
         let p : is_done (event z depth (cluster_of z depth w₂) (S x v)) ≡ true = ap (λ (c : Servers). is_done (event z depth c (S x v))) to-rested ∙ e in
-        eqb-true t.code 0 (sym (ap is_done f.rules ∙ outcome-done z depth (S x v) w₂ (record { code = t.code; site = w₃ })) ∙ p)
+        eqb-true (code_of t.answer) 0 (sym (ap is_done f.rules ∙ outcome-done z depth (S x v) w₂ (record { code = (code_of t.answer); site = w₃ })) ∙ p)
 
     moved : Motion z depth x v (cluster_of z depth w) → Moves z x v (cluster_of z depth w) (rested z depth x (cluster_of z depth w)) (ended z depth x v (cluster_of z depth w)) t
     moved m = record {
@@ -216,7 +216,7 @@ module _ (z : Sizes) (depth : ℕ) (w w₁ w₂ w₃ w₄ : Site) (x v : ℕ) (t
     }
 
   calm-went : t.cluster.sizes ≡ z → t.cluster.depth ≡ depth → Went z depth w (names z x) t.named w₁ → Went z depth w₁ (settling z depth w₁) t.first w₂
-      → Did z depth w₂ (S x v) t.code w₃ → Went z depth w₃ (settling z depth w₃) t.second w₄ → Calms z depth w x v t w₄
+      → Did z depth w₂ (S x v) (code_of t.answer) w₃ → Went z depth w₃ (settling z depth w₃) t.second w₄ → Calms z depth w x v t w₄
   calm-went s d a b f g = go (good_site z depth w) refl
     where
       go : (ok : Bool) → good_site z depth w ≡ ok → Calms z depth w x v t w₄
@@ -234,7 +234,7 @@ pub calm-does : (c : Cluster) (x v : ℕ) (ws h k q o : List ℕ) (a : Ran) (h�
     → Runs a.cluster (good_site a.cluster.sizes a.cluster.depth (site_of a.cluster h₁ k₁ q₁ o₁)) (settling a.cluster.sizes a.cluster.depth (site_of a.cluster h₁ k₁ q₁ o₁)) h₁ k₁ q₁ o₁ b h₂ k₂ q₂ o₂
     → Happens b.cluster (meant b.cluster.sizes (happens.Submit x v)) h₂ k₂ q₂ o₂ s h₃ k₃ q₃ o₃
     → Runs s.cluster (good_site s.cluster.sizes s.cluster.depth (site_of s.cluster h₃ k₃ q₃ o₃)) (settling s.cluster.sizes s.cluster.depth (site_of s.cluster h₃ k₃ q₃ o₃)) h₃ k₃ q₃ o₃ d h₄ k₄ q₄ o₄
-    → Calms c.sizes c.depth (site_of c h k q o) x v (record { code = s.code; named = a.taken; first = b.taken; second = d.taken; cluster = d.cluster }) (site_of d.cluster h₄ k₄ q₄ o₄)
+    → Calms c.sizes c.depth (site_of c h k q o) x v (record { answer = s.answer; named = a.taken; first = b.taken; second = d.taken; cluster = d.cluster }) (site_of d.cluster h₄ k₄ q₄ o₄)
 calm-does c x v ws h k q o a h₁ k₁ q₁ o₁ b h₂ k₂ q₂ o₂ s h₃ k₃ q₃ o₃ d h₄ k₄ q₄ o₄ p ra rb rs rd =
     let z = c.sizes in
     let depth = c.depth in
@@ -243,7 +243,7 @@ calm-does c x v ws h k q o a h₁ k₁ q₁ o₁ b h₂ k₂ q₂ o₂ s h₃ k�
     let sz = rs.leaves.sizes ∙ bz in
     let sd = rs.leaves.depth ∙ bd in
     calm-went z depth (site_of c h k q o) (site_of a.cluster h₁ k₁ q₁ o₁) (site_of b.cluster h₂ k₂ q₂ o₂) (site_of s.cluster h₃ k₃ q₃ o₃) (site_of d.cluster h₄ k₄ q₄ o₄) x v
-    (record { code = s.code; named = a.taken; first = b.taken; second = d.taken; cluster = d.cluster })
+    (record { answer = s.answer; named = a.taken; first = b.taken; second = d.taken; cluster = d.cluster })
     (rd.sizes ∙ sz) (rd.depth ∙ sd)
     (naming-went c x ws h k q o a h₁ k₁ q₁ o₁ p ra)
     (settle-went z depth a.cluster h₁ k₁ q₁ o₁ b h₂ k₂ q₂ o₂ ra.sizes ra.depth rb)

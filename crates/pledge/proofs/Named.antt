@@ -1,11 +1,13 @@
 -- The servers other than x in rising number, and the words of the events that name x.
-use Prim.Native.Nat.{ℕ, zero, suc, ◌+◌, ◌-◌, ◌≤◌, ◌<◌}
+use Prim.Native.Nat.{ℕ, zero, suc, ◌+◌, ◌-◌, ◌*◌, ◌≤◌, ◌<◌}
 use mathlib.Core.Path.{◌≡◌, refl, sym, ap, ◌∙◌}
 use mathlib.Core.Logic.{◌≢◌, ⊎_elim}
 use mathlib.Core.Bool.{Bool, true, false, not}
 use native.Mathlib.Omega.{arith}
 use lib.Dec.{eqb, ltb}
-use lib.ListN.{length, length-map}
+use mathlib.Core.List.{List, [], ◌∷◌, ◌++◌}
+use borrow.Rule.Slice.PartMut.{put_mid}
+use lib.ListN.{length, length-map, take, replicate}
 use borrow.Author.Tests.{eq-eqb, ne_eqb, lt-ltb, le-ltb, ltb-true}
 use Rattle.base.specs.Choice.{pick, both, either}
 use Rattle.base.specs.declared.Sizes.{Sizes}
@@ -17,11 +19,11 @@ use Rattle.pledge.specs.Moves.{other_at, others_from, names, name_words}
 
 -- ---- every server but x is one of them
 
-other-low : (x j : ℕ) → j < x → other_at x j ≡ j
+pub other-low : (x j : ℕ) → j < x → other_at x j ≡ j
 unfolding other_at pick
 other-low x j l = rw (lt-ltb j x l)
 
-other-high : (x j : ℕ) → x ≤ j → other_at x j ≡ j + 1
+pub other-high : (x j : ℕ) → x ≤ j → other_at x j ≡ j + 1
 unfolding other_at pick
 other-high x j l = rw (le-ltb j x l)
 
@@ -102,9 +104,28 @@ from-three P a b c d e (suc (suc (suc (suc (suc (suc zero)))))) l m = d
 from-three P a b c d e (suc (suc (suc (suc (suc (suc (suc zero))))))) l m = e
 from-three P a b c d e (suc (suc (suc (suc (suc (suc (suc (suc n)))))))) l m = absurd (omega arith)
 
+below-six : (P : ℕ → Type 0) → P 0 → P 1 → P 2 → P 3 → P 4 → P 5 → (n : ℕ) → n < 6 → P n
+below-six P a b c d e f zero l = a
+below-six P a b c d e f (suc zero) l = b
+below-six P a b c d e f (suc (suc zero)) l = c
+below-six P a b c d e f (suc (suc (suc zero))) l = d
+below-six P a b c d e f (suc (suc (suc (suc zero)))) l = e
+below-six P a b c d e f (suc (suc (suc (suc (suc zero))))) l = f
+below-six P a b c d e f (suc (suc (suc (suc (suc (suc n)))))) l = absurd (omega arith)
+
 names-read : (z : Sizes) (x n : ℕ) → 3 ≤ n → n ≤ 7 → events_from z (name_words x) 0 (within n 7) ≡ naming x (others_from x 0 (n - 1))
 unfolding events_from event_at named within pick naming others_from
 names-read z x n a b = from-three (λ (m : ℕ). events_from z (name_words x) 0 (within m 7) ≡ naming x (others_from x 0 (m - 1))) refl refl refl refl refl n a b
 
 pub names-are : (z : Sizes) (x : ℕ) → 3 ≤ z.n → z.n ≤ 7 → events_of z (name_words x) z.n ≡ names z x
 names-are z x a b = names-read z x z.n a b
+
+-- ---- the words as they are written
+
+-- the first j + 1 events' words, and zeros
+abbrev pub written : ℕ → ℕ → List ℕ
+written x j = take (3 * j + 3) (name_words x) ++ replicate (18 - 3 * j) 0
+
+-- the next event's words are written
+pub write-next : (x j : ℕ) (ws new : List ℕ) → j < 6 → ws ≡ written x j → new ≡ 1 ∷ other_at x j ∷ x ∷ [] → put_mid (3 * j + 3) (3 * j + 3 + 3 - (3 * j + 3)) ws new ≡ written x (j + 1)
+write-next x j ws new l e f = rw (e, f) (below-six (λ (i : ℕ). put_mid (3 * i + 3) (3 * i + 3 + 3 - (3 * i + 3)) (written x i) (1 ∷ other_at x i ∷ x ∷ []) ≡ written x (i + 1)) refl refl refl refl refl refl j l)

@@ -1,4 +1,8 @@
 -- One ledger, of the code: the ledger's theorems said of structs and lent words.
+use Rattle.std.specs.Prelude.{Err}
+use Rattle.base.specs.declared.Refusal.{Refusal}
+use Rattle.base.specs.Refusals.{number, code_of, STATE}
+use Rattle.base.proofs.Refusals.{number-not}
 use Prim.Native.Nat.{ℕ, ◌%◌, ◌<◌}
 use mathlib.Core.Path.{◌≡◌, refl, sym, ap, ◌∙◌, subst}
 use mathlib.Core.Logic.{◌≢◌, ◌⊎◌}
@@ -9,7 +13,6 @@ use lib.Dec.{eqb}
 use lib.ListN.{length, get_or, take, drop, take-append-drop}
 use borrow.Author.Tests.{lt-ltb}
 use Rattle.base.specs.Choice.{pick, both}
-use Rattle.base.specs.Refusals.{STATE}
 use Rattle.base.specs.Transaction.{Hist, none, Begins}
 use Rattle.base.specs.Record.{entry}
 use Rattle.base.specs.declared.Sizes.{Sizes}
@@ -59,14 +62,14 @@ one-ledger z depth es c h k q o p =
 -- ---- the function's two ends
 
 -- what does not fit is refused, and every word stands
-pub pledged-not : (z : Sizes) (depth budget : ℕ) (es h k q o : List ℕ) (f : Told) (h₁ k₁ q₁ : List ℕ) → Freshly z depth h k q o f h₁ k₁ q₁ → f.code ≢ 0
-    → Pledged z depth budget es h k q o (record { code = f.code; met = 0; taken = 0; cluster = f.cluster }) h₁ k₁ q₁ o
+pub pledged-not : (z : Sizes) (depth budget : ℕ) (es h k q o : List ℕ) (f : Told) (h₁ k₁ q₁ : List ℕ) → Freshly z depth h k q o f h₁ k₁ q₁ → (why : Refusal) → f.answer ≡ Err why
+    → Pledged z depth budget es h k q o (record { answer = Err why; met = 0; taken = 0; cluster = f.cluster }) h₁ k₁ q₁ o
 unfolding fits blank both pick
-pledged-not z depth budget es h k q o f h₁ k₁ q₁ y n = go (good_fresh z depth h k q o) refl y.code y.hists y.cands y.queue
+pledged-not z depth budget es h k q o f h₁ k₁ q₁ y why w = go (good_fresh z depth h k q o) refl (sym (ap code_of w) ∙ y.code) y.hists y.cands y.queue
   where
-    go : (b : Bool) → good_fresh z depth h k q o ≡ b → f.code ≡ pick b 0 STATE → h₁ ≡ pick b (zeros (length h)) h → k₁ ≡ pick b (zeros (length k)) k → q₁ ≡ pick b (zeros (length q)) q
-        → Pledged z depth budget es h k q o (record { code = f.code; met = 0; taken = 0; cluster = f.cluster }) h₁ k₁ q₁ o
-    go true e c a b d = absurd (n c)
+    go : (b : Bool) → good_fresh z depth h k q o ≡ b → number why ≡ pick b 0 STATE → h₁ ≡ pick b (zeros (length h)) h → k₁ ≡ pick b (zeros (length k)) k → q₁ ≡ pick b (zeros (length q)) q
+        → Pledged z depth budget es h k q o (record { answer = Err why; met = 0; taken = 0; cluster = f.cluster }) h₁ k₁ q₁ o
+    go true e c a b d = absurd (number-not why c)
     go false e c a b d = record {
       code = rw e c;
       met = rw e refl;
@@ -74,9 +77,9 @@ pledged-not z depth budget es h k q o f h₁ k₁ q₁ y n = go (good_fresh z de
       sizes = ap (λ (x : Cluster). x.sizes) y.cluster;
       deep = ap (λ (x : Cluster). x.depth) y.cluster;
       site = rw (e, y.cluster, a, b, d) refl;
-      good = λ z. absurd (n z);
-      rules = λ z. absurd (n z);
-      ledger = λ z. absurd (n z);
+      good = λ n. absurd (number-not why n);
+      rules = λ n. absurd (number-not why n);
+      ledger = λ n. absurd (number-not why n);
     }
 
 -- the run's answer, of a cluster c and the words that it was lent
@@ -116,8 +119,8 @@ fresh-run z depth budget es h k q o t h' k' q' o' e s g r = go (eqb (length es %
         }
     go false w =
         let a : good_run z depth (fresh_site z depth (length h) (length k) (length q) o) es ≡ false = rw (g, w) refl in
-        let c : t.code ≡ STATE = r.code ∙ rw a in
-        let n : t.code ≢ 0 = λ x. omega (arith, c, x) in
+        let c : (code_of t.answer) ≡ STATE = r.code ∙ rw a in
+        let n : (code_of t.answer) ≢ 0 = λ x. omega (arith, c, x) in
         record {
           code = rw (e, w) c;
           met = rw (e, w) (r.met ∙ rw a);
@@ -130,12 +133,12 @@ fresh-run z depth budget es h k q o t h' k' q' o' e s g r = go (eqb (length es %
           ledger = λ x. absurd (n x);
         }
 
-pub pledged-run : (z : Sizes) (depth budget : ℕ) (es h k q o : List ℕ) (f : Told) (h₁ k₁ q₁ : List ℕ) (t : Ran) (h' k' q' o' : List ℕ) → Freshly z depth h k q o f h₁ k₁ q₁ → f.code ≡ 0
+pub pledged-run : (z : Sizes) (depth budget : ℕ) (es h k q o : List ℕ) (f : Told) (h₁ k₁ q₁ : List ℕ) (t : Ran) (h' k' q' o' : List ℕ) → Freshly z depth h k q o f h₁ k₁ q₁ → (code_of f.answer) ≡ 0
     → Running es budget o t h' k' q' o' f.cluster h₁ k₁ q₁ → Pledged z depth budget es h k q o t h' k' q' o'
 unfolding pick
 pledged-run z depth budget es h k q o f h₁ k₁ q₁ t h' k' q' o' y n r = go (good_fresh z depth h k q o) refl y.code y.hists y.cands y.queue
   where
-    go : (b : Bool) → good_fresh z depth h k q o ≡ b → f.code ≡ pick b 0 STATE → h₁ ≡ pick b (zeros (length h)) h → k₁ ≡ pick b (zeros (length k)) k → q₁ ≡ pick b (zeros (length q)) q
+    go : (b : Bool) → good_fresh z depth h k q o ≡ b → (code_of f.answer) ≡ pick b 0 STATE → h₁ ≡ pick b (zeros (length h)) h → k₁ ≡ pick b (zeros (length k)) k → q₁ ≡ pick b (zeros (length q)) q
         → Pledged z depth budget es h k q o t h' k' q' o'
     go true e c a b d =
         let same : site_of f.cluster h₁ k₁ q₁ o ≡ fresh_site z depth (length h) (length k) (length q) o = rw (y.cluster, a, b, d) refl in

@@ -1,4 +1,5 @@
 -- Two answers that meet a promise of these functions are equal, and so is every word.
+use Rattle.base.proofs.Refusals.{code-one}
 use Prim.Native.Nat.{ℕ}
 use mathlib.Core.Path.{◌≡◌, sym, ◌∙◌}
 use mathlib.Core.List.{List}
@@ -14,7 +15,7 @@ pub one-pledge : (z : Sizes) (depth budget : ℕ) (es h k q o : List ℕ) (t u :
     → (t ≡ u) × ((h' ≡ h'') × (k' ≡ k'') × (q' ≡ q'') × (o' ≡ o''))
 one-pledge z depth budget es h k q o t u h' k' q' o' h'' k'' q'' o'' a b =
     let d = same-cluster t.cluster u.cluster h' k' q' o' h'' k'' q'' o'' (a.sizes ∙ sym b.sizes) (a.deep ∙ sym b.deep) (a.site ∙ sym b.site) in (
-      (λ j. record { code = (a.code ∙ sym b.code) j; met = (a.met ∙ sym b.met) j; taken = (a.taken ∙ sym b.taken) j; cluster = d j }),
+      (λ j. record { answer = code-one _ _ (a.code ∙ sym b.code) j; met = (a.met ∙ sym b.met) j; taken = (a.taken ∙ sym b.taken) j; cluster = d j }),
       same-words t.cluster u.cluster h' k' q' o' h'' k'' q'' o'' (a.sizes ∙ sym b.sizes) (a.deep ∙ sym b.deep) (a.site ∙ sym b.site),
     )
 
@@ -22,6 +23,6 @@ pub one-calm : (z : Sizes) (depth : ℕ) (w : Site) (x v : ℕ) (t u : Calmed) (
     → (t ≡ u) × ((h' ≡ h'') × (k' ≡ k'') × (q' ≡ q'') × (o' ≡ o''))
 one-calm z depth w x v t u h' k' q' o' h'' k'' q'' o'' a b =
     let d = same-cluster t.cluster u.cluster h' k' q' o' h'' k'' q'' o'' (a.sizes ∙ sym b.sizes) (a.deep ∙ sym b.deep) (a.site ∙ sym b.site) in (
-      (λ j. record { code = (a.code ∙ sym b.code) j; named = (a.named ∙ sym b.named) j; first = (a.first ∙ sym b.first) j; second = (a.second ∙ sym b.second) j; cluster = d j }),
+      (λ j. record { answer = code-one _ _ (a.code ∙ sym b.code) j; named = (a.named ∙ sym b.named) j; first = (a.first ∙ sym b.first) j; second = (a.second ∙ sym b.second) j; cluster = d j }),
       same-words t.cluster u.cluster h' k' q' o' h'' k'' q'' o'' (a.sizes ∙ sym b.sizes) (a.deep ∙ sym b.deep) (a.site ∙ sym b.site),
     )

@@ -1,7 +1,7 @@
 -- One ledger: what a run of events leaves in structs and lent words, and what it promises of them.
 use Rattle.std.specs.Prelude.{ℕ, ◌%◌, ◌≤◌, ◌<◌, ◌≡◌, ◌⊎◌, Bool, true, List, eqb, length, get_or, take}
 use Rattle.base.specs.Choice.{pick, both}
-use Rattle.base.specs.Refusals.{STATE}
+use Rattle.base.specs.Refusals.{code_of, STATE}
 use Rattle.base.specs.Transaction.{Hist, none, Begins}
 use Rattle.base.specs.Record.{entry}
 use Rattle.base.specs.declared.Sizes.{Sizes}
@@ -45,12 +45,12 @@ blank z depth h k q o = pick (good_fresh z depth h k q o)
 -- a run of the events es, within the budget, from fresh servers: the whole answer; the cluster that is left is well formed and
 -- stands for the rules' cluster after them; and it has one ledger
 pub record Pledged (z : Sizes) (depth budget : ℕ) (es h k q o : List ℕ) (t : Ran) (h' k' q' o' : List ℕ) : Type 0 where
-  pub code : t.code ≡ pick (fits z depth es h k q o) 0 STATE
+  pub code : code_of t.answer ≡ pick (fits z depth es h k q o) 0 STATE
   pub met : t.met ≡ pick (fits z depth es h k q o) (length (events_of z es budget)) 0
   pub taken : t.taken ≡ pick (fits z depth es h k q o) (tally z depth start (events_of z es budget)) 0
   pub sizes : t.cluster.sizes ≡ z
   pub deep : t.cluster.depth ≡ depth
   pub site : site_of t.cluster h' k' q' o' ≡ pick (fits z depth es h k q o) (played z depth (blank z depth h k q o) (events_of z es budget)) (blank z depth h k q o)
-  pub good : t.code ≡ 0 → good_site z depth (site_of t.cluster h' k' q' o') ≡ true
-  pub rules : t.code ≡ 0 → cluster_of z depth (site_of t.cluster h' k' q' o') ≡ play z depth start (events_of z es budget)
-  pub ledger : t.code ≡ 0 → OneLedger z depth (events_of z es budget) t.cluster h'
+  pub good : code_of t.answer ≡ 0 → good_site z depth (site_of t.cluster h' k' q' o') ≡ true
+  pub rules : code_of t.answer ≡ 0 → cluster_of z depth (site_of t.cluster h' k' q' o') ≡ play z depth start (events_of z es budget)
+  pub ledger : code_of t.answer ≡ 0 → OneLedger z depth (events_of z es budget) t.cluster h'

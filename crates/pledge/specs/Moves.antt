@@ -1,7 +1,7 @@
 -- It moves: the calm run on structs and lent words, its whole answer, and what it promises.
 use Rattle.std.specs.Prelude.{ℕ, zero, suc, ◌+◌, ◌-◌, ◌*◌, ◌≤◌, ◌<◌, ◌≡◌, ◌≢◌, true, List, [], ◌∷◌, ◌++◌, ltb, length}
 use Rattle.base.specs.Choice.{pick}
-use Rattle.base.specs.Refusals.{STATE}
+use Rattle.base.specs.Refusals.{code_of, STATE}
 use Rattle.base.specs.Transaction.{LAST, ident, last_id}
 use Rattle.base.specs.declared.Sizes.{Sizes}
 use Rattle.rules.specs.Cluster.{Cluster as Servers, Event, S, start, event, after, play}
@@ -100,7 +100,7 @@ pub record Moves (z : Sizes) (x v : ℕ) (c c₂ c₄ : Servers) (t : Calmed) : 
   pub named : t.named ≡ z.n
   pub first : t.first ≡ 6 * (z.n - 1)
   pub recovered : Recovered (below z.n) x ((c.srv x).dur.p + 1) c₂
-  pub submitted : Roomy z x c₂ → t.code ≡ 0
+  pub submitted : Roomy z x c₂ → code_of t.answer ≡ 0
   pub second : Roomy z x c₂ → t.second ≡ 3 * (z.n - 1)
   pub delivered : Roomy z x c₂
       → Established (below z.n) x (c₂.srv x).dur.p ((c₂.srv x).dur.hist ++ (submitted-entry v (c₂.srv x).dur.p (c₂.srv x).dur.hist ∷ [])) c₄
@@ -108,7 +108,7 @@ pub record Moves (z : Sizes) (x v : ℕ) (c c₂ c₄ : Servers) (t : Calmed) : 
 -- the calm run from w, which leaves w': the whole answer, where STATE leaves every word as it was; what is left is well formed
 -- and stands for what the rules do; and it moves, from whatever a run of events from fresh servers leads to
 pub record Calms (z : Sizes) (depth : ℕ) (w : Site) (x v : ℕ) (t : Calmed) (w' : Site) : Type 0 where
-  pub code : t.code ≡ pick (good_site z depth w) (submission z depth w x v).code STATE
+  pub code : code_of t.answer ≡ pick (good_site z depth w) (submission z depth w x v).code STATE
   pub named : t.named ≡ pick (good_site z depth w) (tally z depth (cluster_of z depth w) (names z x)) 0
   pub first : t.first ≡ pick (good_site z depth w) (tally z depth (cluster_of z depth (renamed z depth w x)) (settling z depth (renamed z depth w x))) 0
   pub second : t.second ≡ pick (good_site z depth w) (tally z depth (cluster_of z depth (submission z depth w x v).site) (settling z depth (submission z depth w x v).site)) 0
@@ -123,7 +123,7 @@ pub record Calms (z : Sizes) (depth : ℕ) (w : Site) (x v : ℕ) (t : Calmed) (
 
 -- the calm run of fresh servers: no refusal, all are named, and both numbers of deliveries
 pub record Counted (z : Sizes) (t : Calmed) : Type 0 where
-  pub code : t.code ≡ 0
+  pub code : code_of t.answer ≡ 0
   pub named : t.named ≡ z.n
   pub first : t.first ≡ 6 * (z.n - 1)
   pub second : t.second ≡ 3 * (z.n - 1)

@@ -6,16 +6,16 @@ ghost use Rattle.site.specs.Site.{site_of};
 ghost use Rattle.pledge.specs.Ledger.{Pledged};
 ghost use Rattle.pledge.specs.Moves.{other_at, name_words, Calms};
 
-use base::Sizes;
+use base::{Refusal, Sizes};
 use runs::Ran;
 use site::Cluster;
 use turn::Happening;
 
-// What a calm run reports: the refusal of its submission or 0; how many were named, and how many deliveries were taken before
+// What a calm run reports: whether its submission was taken; how many were named, and how many deliveries were taken before
 // the submission and after it.
 #[derive(Clone, Copy)]
 pub struct Calmed {
-    pub code: u8,
+    pub answer: Result<(), Refusal>,
     pub named: usize,
     pub first: usize,
     pub second: usize,
@@ -36,16 +36,15 @@ pub fn ledger<'a>(
     ensures { Pledged z depth budget es.now hists.old cands.old queue.old out.old result hists.new cands.new queue.new out.new }
 {
     let f = cluster::fresh(z, depth, hists, cands, queue, out);
-    let c = f.cluster;
-    if f.code != 0 {
+    if let Err(why) = f.answer {
         return Ran {
-            code: f.code,
+            answer: Err(why),
             met: 0,
             taken: 0,
-            cluster: c,
+            cluster: f.cluster,
         };
     }
-    runs::run(c, es, budget, hists, cands, queue, out)
+    runs::run(f.cluster, es, budget, hists, cands, queue, out)
 }
 
 // Of the servers other than x, in rising number, the one of number j.
@@ -53,26 +52,21 @@ fn other(x: u8, j: u64) -> u64
     requires { j < 7 }
     ensures { result ≡ other_at x j }
 {
-    if j < (x as u64) {
-        return j;
-    }
-    j + 1
+    if j < u64::from(x) { j } else { j + 1 }
 }
 
 // The words of the events that name x at itself and then at all others, for seven servers.
 fn name_words(x: u8) -> [u64; 21]
     ensures { result ≡ name_words x }
 {
-    let y = x as u64;
-    let a = other(x, 0);
-    let b = other(x, 1);
-    let c = other(x, 2);
-    let d = other(x, 3);
-    let e = other(x, 4);
-    let f = other(x, 5);
-    [
-        1, y, y, 1, a, y, 1, b, y, 1, c, y, 1, d, y, 1, e, y, 1, f, y,
-    ]
+    let y = u64::from(x);
+    let mut words = [0; 21];
+    words[..3].copy_from_slice(&[1, y, y]);
+    for j in 0..6 {
+        let at = 3 * j + 3;
+        words[at..at + 3].copy_from_slice(&[1, other(x, j as u64), y]);
+    }
+    words
 }
 
 // Names x at x and then at all others in rising number, lets the cluster settle, submits v at x, and lets it settle again.
@@ -88,18 +82,17 @@ pub fn calm<'a>(
     ensures { Calms c.sizes c.depth (site_of c hists.old cands.old queue.old out.old) x v result (site_of result.cluster hists.new cands.new queue.new out.new) }
 {
     let words = name_words(x);
-    let n = c.sizes.n as usize;
+    let n = usize::from(c.sizes.n);
     let a = runs::run(c, &words, n, hists, cands, queue, out);
     let b = runs::settle(a.cluster, 64, hists, cands, queue, out);
-    let e = Happening::Submit(x as u64, v);
+    let e = Happening::Submit(u64::from(x), v);
     let s = cluster::event(b.cluster, e, hists, cands, queue, out);
     let d = runs::settle(s.cluster, 64, hists, cands, queue, out);
-    let end = d.cluster;
     Calmed {
-        code: s.code,
+        answer: s.answer,
         named: a.taken,
         first: b.taken,
         second: d.taken,
-        cluster: end,
+        cluster: d.cluster,
     }
 }

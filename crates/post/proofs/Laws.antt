@@ -6,15 +6,14 @@ use mathlib.Core.List.{List, [], ◌∷◌, ◌++◌}
 use native.Mathlib.Omega.{arith}
 use native.Mathlib.Numerals.{add-one}
 use native.Mathlib.Nat.{mul-le-mul_left, mul-suc}
-use lib.ListN.{length, take, drop, length-append}
-use lib.Seq.{take-take}
+use lib.ListN.{length, length-append}
 use borrow.Author.Tests.{leb-true}
 use Rattle.base.specs.Choice.{upd₂}
 use Rattle.base.specs.declared.Sizes.{Sizes}
 use Rattle.base.proofs.Choice.{all-at, upd₂-at, upd₂-same}
 use Rattle.rules.specs.Message.{Msg, Send}
 use Rattle.rules.specs.Cluster.{Channels, post, roomy}
-use Rattle.rules.specs.Words.{msg_size, slot_size, read_msg, tab}
+use Rattle.rules.specs.Words.{slot_size, read_msg, tab}
 use Rattle.ring.specs.declared.Rings.{Rings}
 use Rattle.ring.specs.Queue.{cell, count, slot_no, longer, filled, chans, Chan, Pushed}
 use Rattle.ring.proofs.Parts.{tab-snoc}
@@ -98,10 +97,3 @@ pub slot-box : (H k L : ℕ) → k < 6 → 6 * slot_size H ≤ L → slot_size H
 slot-box H k L h l =
     let a : slot_size H * suc k ≤ slot_size H * 6 = mul-le-mul_left (slot_size H) h in
     omega (arith, mul-suc (slot_size H) k)
-
-pub posted-one : (z : Sizes) (depth : ℕ) (r s : Rings) (q p : List ℕ) (i : ℕ) (o : List ℕ) (k m to a : ℕ) → m ≡ msg_size z.room.0 → a ≡ (1 + m) * k + 1 → to ≡ to_at z.room.0 o k
-    → Pushed z depth r q i to (take (msg_size z.room.0) (take (a + m - a) (drop a o))) s p → Pushed z depth r q i (to_at z.room.0 o k) (words_at z.room.0 o k) s p
-posted-one z depth r s q p i o k m to a e f t b =
-    let g : take (msg_size z.room.0) (take (a + m - a) (drop a o)) ≡ words_at z.room.0 o k
-    = take-take (msg_size z.room.0) (a + m - a) (drop a o) (omega arith) ∙ ap (λ (x : ℕ). take (msg_size z.room.0) (drop x o)) (f ∙ ap (λ (x : ℕ). (1 + x) * k + 1) e) in
-    subst (λ (x : ℕ). Pushed z depth r q i x (words_at z.room.0 o k) s p) t (subst (λ (x : List ℕ). Pushed z depth r q i to x s p) g b)

@@ -7,17 +7,19 @@ use mathlib.Core.List.{List, [], ◌∷◌, ◌++◌}
 use native.Mathlib.Omega.{arith}
 use lib.Dec.{eqb, leb}
 use lib.ListN.{length, length-append}
-use borrow.Author.Tests.{eq-eqb, ne_eqb, le-leb, leb-true}
+use borrow.Author.Tests.{eq-eqb, ne_eqb}
+use mir.Val.{bool_byte}
 use Rattle.base.specs.Choice.{pick, both, either, all_below, upd₂}
 use Rattle.base.specs.Quorum.{Set}
 use Rattle.base.specs.declared.Sizes.{Sizes}
-use Rattle.base.proofs.Choice.{eq-or, all_of, all-at, upd₂-same, upd₂-other, case, both-no}
+use Rattle.base.proofs.Choice.{eq-or, upd₂-same, upd₂-other, both-no}
 use Rattle.rules.specs.Message.{Msg, Send}
 use Rattle.rules.specs.Tree.{to_all}
 use Rattle.rules.specs.Cluster.{Channels, emptied, post, roomy}
 use Rattle.rules.specs.Words.{has}
 use Rattle.ring.specs.declared.Rings.{Rings}
-use Rattle.ring.specs.Queue.{cell, count}
+use Rattle.ring.specs.Queue.{cell, count, good_rings, Chan}
+use Rattle.ring.proofs.Laws.{ring-at, cell-low}
 use Rattle.post.specs.Room.{hit, due, fits, how_many}
 
 pub many-append : (xs ys : List Send) (t : ℕ) → how_many (xs ++ ys) t ≡ how_many xs t + how_many ys t
@@ -94,37 +96,32 @@ fits-roomy z depth r i empties one two rest a b w = all_same z.n _ _ (λ t l.
 
 -- ---- for the code
 
-pub hit-self : (i : ℕ) (q : Set) (t : ℕ) → t ≡ i → hit i q t ≡ 0
-unfolding hit pick
-hit-self i q t e = ap (λ (b : Bool). pick b 1 0) (both-no (q t) (not (eqb t i)) (ap not (eq-eqb t i e)))
-
-pub hit-in : (i : ℕ) (q : Set) (t : ℕ) → t ≢ i → q t ≡ true → hit i q t ≡ 1
+hit-in : (i : ℕ) (q : Set) (t : ℕ) → t ≢ i → q t ≡ true → hit i q t ≡ 1
 unfolding hit pick both
 hit-in i q t n e = rw (e, ne_eqb t i n)
 
-pub hit-out : (i : ℕ) (q : Set) (t : ℕ) → q t ≡ false → hit i q t ≡ 0
+hit-out : (i : ℕ) (q : Set) (t : ℕ) → q t ≡ false → hit i q t ≡ 0
 unfolding hit pick both
 hit-out i q t e = rw e
 
-pub due-bare : (z : Sizes) (r : Rings) (i : ℕ) (empties : Bool) (one two : List Bool) (t k : ℕ) → empties ≡ true → k ≡ hit i (has one) t + hit i (has two) t → k ≡ due z r i empties one two t
-unfolding pick
-due-bare z r i empties one two t k e a = rw e (a ∙ omega arith)
+-- no message to oneself, and one to another of the set
+pub hit-self : (i : ℕ) (q : Set) (t k : ℕ) (b : Bool) → t ≡ i → b ≡ not (eqb t i) → k ≡ bool_byte b → (k ≡ hit i q t) × (k ≤ 1)
+unfolding hit pick
+hit-self i q t k b e f g =
+    let o : k ≡ 0 = g ∙ ap bool_byte (f ∙ ap not (eq-eqb t i e)) in
+    (o ∙ sym (ap (λ (b : Bool). pick b 1 0) (both-no (q t) (not (eqb t i)) (ap not (eq-eqb t i e)))), omega arith)
 
-pub due-full : (z : Sizes) (r : Rings) (i : ℕ) (empties : Bool) (one two : List Bool) (t c k : ℕ) → empties ≡ false → c ≡ cell z.n i t → k ≡ hit i (has one) t + hit i (has two) t
-    → count r c + k ≡ due z r i empties one two t
-unfolding pick
-due-full z r i empties one two t c k e f a = rw (e, ← f, ← a)
+pub hit-other : (i : ℕ) (q : Set) (t k : ℕ) (b : Bool) → t ≢ i → b ≡ q t → k ≡ bool_byte b → (k ≡ hit i q t) × (k ≤ 1)
+hit-other i q t k true n e g = (g ∙ sym (hit-in i q t n (sym e)), omega arith)
+hit-other i q t k false n e g = (g ∙ sym (hit-out i q t (sym e)), omega arith)
 
-pub not-fits : (z : Sizes) (depth : ℕ) (r : Rings) (i : ℕ) (empties : Bool) (one two : List Bool) (t k : ℕ) → t < z.n → k ≡ due z r i empties one two t → depth < k → false ≡ fits z depth r i empties one two
-unfolding fits
-not-fits z depth r i empties one two t k l e d = case (fits z depth r i empties one two)
-    (λ (g : fits z depth r i empties one two ≡ true). let x : due z r i empties one two t ≤ depth = leb-true _ _ (all-at z.n (λ t. leb (due z r i empties one two t) depth) g t l) in absurd (omega arith))
-    (λ (g : fits z depth r i empties one two ≡ false). sym g)
+pub due-is : (z : Sizes) (r : Rings) (i : ℕ) (empties : Bool) (one two : List Bool) (t w a b : ℕ) → w ≡ pick empties 0 (count r (cell z.n i t)) → a ≡ hit i (has one) t → b ≡ hit i (has two) t
+    → w + a + b ≡ due z r i empties one two t
+due-is z r i empties one two t w a b e f g = rw (← e, ← f, ← g) (omega arith)
 
-pub does-fit : (z : Sizes) (depth : ℕ) (r : Rings) (i : ℕ) (empties : Bool) (one two : List Bool) (k : ℕ) → z.n ≤ k → ((t : ℕ) → t < k → due z r i empties one two t ≤ depth) → true ≡ fits z depth r i empties one two
-unfolding fits
-does-fit z depth r i empties one two k l f = sym (all_of z.n (λ t. leb (due z r i empties one two t) depth) (λ t h. le-leb _ _ (f t (omega arith))))
-
-pub fits_on : (z : Sizes) (depth : ℕ) (r : Rings) (i : ℕ) (empties : Bool) (one two : List Bool) (k d : ℕ) → ((t : ℕ) → t < k → due z r i empties one two t ≤ depth) → d ≡ due z r i empties one two k → d ≤ depth
-    → (t : ℕ) → t < k + 1 → due z r i empties one two t ≤ depth
-fits_on z depth r i empties one two k d f e l t h = ⊎_elim (λ (p : t ≡ k). rw p (omega arith)) (λ (n : t ≢ k). f t (omega arith)) (eq-or t k)
+-- what the test of one channel asks, at t below n
+pub due-may : (z : Sizes) (depth : ℕ) (r : Rings) (i t : ℕ) → z.n ≤ 7 → depth ≤ 16 → good_rings depth r ≡ true → i < z.n → t < z.n → (z.n ≤ 7) × (Chan z i t × (count r (cell z.n i t) ≤ 16))
+due-may z depth r i t n d g h l =
+    let k : Chan z i t = record { sender = h; receiver = l } in
+    let u = (ring-at depth r (cell z.n i t) g (cell-low z i t n k).1).1 in
+    (n, (k, omega arith))

@@ -29,10 +29,8 @@ pub fn post(z: Sizes, depth: u8, r: Rings, queue: &mut [u64], i: u8, out: &[u64]
     ensures { Posted z depth r queue.old i out.now n result queue.new }
 {
     let mut s = r;
-    let mut k: usize = 0;
-    while k < n {
+    for k in 0..n {
         s = post_one(z, depth, s, queue, i, out, k);
-        k += 1;
     }
     s
 }
@@ -42,14 +40,7 @@ fn hit(i: u8, q: [bool; 7], t: u8) -> u8
     requires { t < 7 }
     ensures { (result ≡ hit i (has q) t) × (result ≤ 1) }
 {
-    if t == i {
-        return 0;
-    }
-    let j = t as usize;
-    if q[j] {
-        return 1;
-    }
-    0
+    u8::from(t != i && q[usize::from(t)])
 }
 
 // How many would wait from i to t after a cast to each of two sets.
@@ -57,13 +48,12 @@ fn due(z: Sizes, r: Rings, i: u8, empties: bool, one: [bool; 7], two: [bool; 7],
     requires { (z.n ≤ 7) × ((Chan z i t) × (count r (cell z.n i t) ≤ 16)) }
     ensures { result ≡ due z r i empties one two t }
 {
-    let a = hit(i, one, t);
-    let b = hit(i, two, t);
-    if empties {
-        return a + b;
-    }
-    let c = ring::channel(z, i, t);
-    r.counts[c] + (a + b)
+    let waiting = if empties {
+        0
+    } else {
+        r.counts[ring::channel(z, i, t)]
+    };
+    waiting + hit(i, one, t) + hit(i, two, t)
 }
 
 // Whether there is room for a cast to each of two sets, before anything is written.
@@ -79,12 +69,5 @@ pub fn has_room(
     requires { (z.n ≤ 7) × ((depth ≤ 16) × ((good_rings depth r ≡ true) × (i < z.n))) }
     ensures { result ≡ fits z depth r i empties one two }
 {
-    let mut t: u8 = 0;
-    while t < z.n {
-        if depth < due(z, r, i, empties, one, two, t) {
-            return false;
-        }
-        t += 1;
-    }
-    true
+    (0..z.n).all(|t| due(z, r, i, empties, one, two, t) <= depth)
 }

@@ -3,18 +3,19 @@ use Prim.Native.Nat.{ℕ, zero, suc, ◌+◌, ◌-◌, ◌*◌, ◌≤◌, ◌<�
 use mathlib.Core.Path.{◌≡◌, refl, sym, ap, ◌∙◌, subst}
 use mathlib.Core.Logic.{◌≢◌, ◌⊎◌, inl, inr, ⊎_elim}
 use mathlib.Core.Bool.{Bool, true, false}
-use mathlib.Core.List.{List, [], ◌∷◌, ◌++◌, append-nil}
+use mathlib.Core.List.{List, [], ◌∷◌, ◌++◌}
 use native.Mathlib.Omega.{arith}
 use native.Mathlib.Nat.{mul-le-mul_left, mul-le-mul, mul-add}
 use native.Mathlib.Numerals.{add-one}
 use lib.Dec.{eqb, leb, ltb}
-use lib.ListN.{length, take, drop, get_or, set, length-set}
+use lib.ListN.{length, take, drop, get_or, set, replicate, length-set, length-take, length-drop}
 use lib.Seq.{get_or-set_same, get_or-set_other, length-take-le}
 use borrow.Author.Tests.{eqb-true, eqb-false, leb-true, ltb-true, le-leb, lt-ltb, le-ltb}
 use borrow.Rule.Slice.PartMut.{put_mid}
+use Rattle.std.specs.Prelude.{◌↔◌, IsTrue, EachIndex}
 use Rattle.base.specs.Choice.{pick, both, either, upd₂}
 use Rattle.base.specs.declared.Sizes.{Sizes}
-use Rattle.base.proofs.Choice.{case, both_true, both_yes, both-no, either_true, either-false, pick_at, eq-or, le-or-lt, all-at, all_of, upd₂-at}
+use Rattle.base.proofs.Choice.{case, clash, both_true, both_yes, both-no, either_true, either-false, pick_at, eq-or, le-or-lt, all-at, all_of, upd₂-at}
 use Rattle.rules.specs.Message.{Msg}
 use Rattle.rules.specs.Cluster.{Channels, emptied}
 use Rattle.rules.specs.Words.{msg_size, read_msg, tab, zeros, put}
@@ -73,9 +74,20 @@ pub rings-of : (depth : ℕ) (r : Rings) → ((c : ℕ) → c < 49 → (head r c
 unfolding good_rings good_ring
 rings-of depth r f = all_of 49 (good_ring depth r) (λ c l. let p = f c l in both_yes _ _ (lt-ltb _ _ p.0) (le-leb _ _ p.1))
 
--- a ring out of its range
-pub ring-not : (depth : ℕ) (r : Rings) (c : ℕ) → c < 49 → (head r c < depth → count r c ≤ depth → ⊥) → false ≡ good_rings depth r
-ring-not depth r c l n = case (good_rings depth r) (λ (g : good_rings depth r ≡ true). let p = ring-at depth r c g l in absurd (n p.0 p.1)) (λ (g : good_rings depth r ≡ false). sym g)
+-- where b tells of all heads
+pub heads-tell : (depth : ℕ) (r : Rings) (b : Bool) → length r.heads ≡ 49 → IsTrue b ↔ EachIndex r.heads (λ c. head r c < depth) → b ≡ false → b ≡ good_rings depth r
+heads-tell depth r b n t f = case (good_rings depth r)
+    (λ (g : good_rings depth r ≡ true). clash (t.1 (λ c l. (ring-at depth r c g (omega arith)).0)) f)
+    (λ (g : good_rings depth r ≡ false). f ∙ sym g)
+
+-- where all heads are in their range, and b tells of all counts
+pub counts-tell : (depth : ℕ) (r : Rings) (b : Bool) → length r.heads ≡ 49 → length r.counts ≡ 49 → EachIndex r.heads (λ c. head r c < depth) → IsTrue b ↔ EachIndex r.counts (λ c. count r c ≤ depth)
+    → b ≡ good_rings depth r
+counts-tell depth r b n m h t = case b
+    (λ (e : b ≡ true). e ∙ sym (rings-of depth r (λ c l. (h c (omega arith), t.0 e c (omega arith)))))
+    (λ (e : b ≡ false). case (good_rings depth r)
+    (λ (g : good_rings depth r ≡ true). clash (t.1 (λ c l. (ring-at depth r c g (omega arith)).1)) e)
+    (λ (g : good_rings depth r ≡ false). e ∙ sym g))
 
 pub square : (n : ℕ) → n ≤ 7 → n * n ≤ 49
 square n p = let x : n * n ≤ n * 7 = mul-le-mul_left n p in omega arith
@@ -354,14 +366,6 @@ clear-does z depth r r' q q' f t g h a b =
       };
     }
 
-pub pair-does : (z : Sizes) (depth : ℕ) (r s t : Rings) (q p o : List ℕ) (i k : ℕ) → Cleared z depth r q i k s p → Cleared z depth s p k i t o → Parted z depth r q i k t o
-pair-does z depth r s t q p o i k a b = record {
-  rings = b.rings ∙ ap (vacant (cell z.n k i)) a.rings;
-  words = b.words ∙ ap (λ (w : List ℕ). bare z.room.0 depth w (cell z.n k i)) a.words;
-  chans = b.chans ∙ ap (λ (x : Channels). upd₂ x k i []) a.chans;
-  good = b.good;
-}
-
 -- the channels between i and each server below k
 unfoldable pub silent : ℕ → ℕ → Channels → Channels
 silent i zero c = c
@@ -437,22 +441,21 @@ empty-does z depth r s q p i k a b l =
 pub times : (a b x y : ℕ) → a ≤ x → b ≤ y → a * b ≤ x * y
 times a b x y h k = mul-le-mul h k
 
-pub mid-fill : (q s ws : List ℕ) (at size len l : ℕ) → len ≡ size → l ≡ size → size ≤ length ws → s ≡ take size ws ++ zeros (l - size) → put_mid at len q s ≡ put q at (take size ws)
+-- the first words of ws written into a part of q
+pub mid-fill : (q s ws : List ℕ) (at size : ℕ) → size ≤ length ws → s ≡ take size ws → put_mid at (at + size - at) q s ≡ put q at (take size ws)
+mid-fill q s ws at size h p = mid-put at (at + size - at) q s (ap length p ∙ length-take-le size ws h ∙ omega arith) ∙ ap (put q at) p
+
+zeros-replicate : (n : ℕ) → replicate n 0 ≡ zeros n
 unfolding zeros
-mid-fill q s ws at size len l e f h k =
-    let o : l - size ≡ 0 = omega arith in
-    let p : s ≡ take size ws = k ∙ rw o (append-nil (take size ws)) in
-    mid-put at len q s (ap length p ∙ length-take-le size ws h ∙ sym e) ∙ ap (put q at) p
+zeros-replicate zero = refl
+zeros-replicate (suc n) = ap (λ (w : List ℕ). 0 ∷ w) (zeros-replicate n)
 
-pub mid-clear : (q s : List ℕ) (at size len l : ℕ) → len ≡ size → l ≡ size → s ≡ zeros (l - 0) → put_mid at len q s ≡ put q at (zeros size)
-mid-clear q s at size len l e f k =
-    let o : l - 0 ≡ size = omega arith in
-    let p : s ≡ zeros size = k ∙ rw o in
-    mid-put at len q s (ap length p ∙ length-zeros size ∙ sym e) ∙ ap (put q at) p
-
-pub rings-on : (depth : ℕ) (r : Rings) (i : ℕ) → ((c : ℕ) → c < i → (head r c < depth) × (count r c ≤ depth)) → head r i < depth → count r i ≤ depth
-    → (c : ℕ) → c < i + 1 → (head r c < depth) × (count r c ≤ depth)
-rings-on depth r i f h k c l = ⊎_elim (λ (e : c ≡ i). rw e (h, k)) (λ (n : c ≢ i). f c (omega arith)) (eq-or c i)
+-- zeros written into a part of q
+pub mid-clear : (q s : List ℕ) (at size : ℕ) → at + size ≤ length q → s ≡ replicate (length (take (at + size - at) (drop at q))) 0 → put_mid at (at + size - at) q s ≡ put q at (zeros size)
+mid-clear q s at size h k =
+    let f : length (take (at + size - at) (drop at q)) ≡ size = simp (length-take, length-drop) (omega arith) in
+    let p : s ≡ zeros size = k ∙ zeros-replicate _ ∙ ap zeros f in
+    mid-put at (at + size - at) q s (ap length p ∙ length-zeros size ∙ omega arith) ∙ ap (put q at) p
 
 -- a slot and a ring lie in the queue
 pub slot-fits : (z : Sizes) (depth : ℕ) (r : Rings) (q : List ℕ) (f t k w at m : ℕ) → Ringed z depth r q → Chan z f t → k ≡ cell z.n f t → w < depth
@@ -461,6 +464,12 @@ slot-fits z depth r q f t k w at m g h e l a b =
     let c = cell-low z f t g.few h in
     let o : k < z.n * z.n = rw e c.0 in
     rw (a, b, g.size) (slot-in z depth k w o l)
+
+pub front-fits : (z : Sizes) (depth : ℕ) (r : Rings) (q : List ℕ) (f t at m : ℕ) → Ringed z depth r q → Chan z f t
+    → at ≡ msg_size z.room.0 * slot_no depth r (cell z.n f t) 0 → m ≡ msg_size z.room.0 → at + m ≤ length q
+front-fits z depth r q f t at m g h a b =
+    let u = ring-at depth r (cell z.n f t) g.rings (cell-low z f t g.few h).1 in
+    slot-fits z depth r q f t (cell z.n f t) (wrap depth (head r (cell z.n f t) + 0)) at m g h refl (wrap-low depth (head r (cell z.n f t)) 0 u.0 (omega arith)) a b
 
 pub ring-fits : (z : Sizes) (depth : ℕ) (r : Rings) (q : List ℕ) (f t k at m : ℕ) → Ringed z depth r q → Chan z f t → k ≡ cell z.n f t
     → at ≡ msg_size z.room.0 * (depth * k + 0) → m ≡ msg_size z.room.0 → at + m * depth ≤ length q

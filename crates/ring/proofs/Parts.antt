@@ -2,12 +2,17 @@
 use Prim.Native.Nat.{ℕ, zero, suc, ◌+◌, ◌-◌, ◌*◌, ◌≤◌, ◌<◌}
 use mathlib.Core.Path.{◌≡◌, refl, sym, ap, ◌∙◌}
 use mathlib.Core.Logic.{◌≢◌, ⊎_elim}
+use mathlib.Core.Bool.{Bool, true, false}
 use mathlib.Core.List.{List, [], ◌∷◌, ◌++◌, append_assoc}
 use native.Mathlib.Omega.{arith}
-use native.Mathlib.Nat.{mul-le-mul_left, mul-suc}
+use native.Mathlib.Nat.{mul-le-mul_left, mul-suc, zero-add}
 use lib.ListN.{length, take, drop, length-append}
 use lib.Seq.{length-take-le, take_at, drop_at, take-add, drop-drop, take-take, take-append-le}
-use Rattle.base.proofs.Choice.{eq-or, le-or-lt}
+use Rattle.std.specs.Bool.{MatchBool}
+use Rattle.std.specs.List.{range_with_len, AllWithin, HoldsAt}
+use Rattle.std.proofs.lemmas.List.FromFn.{length-range_with_len, get_or-range_with_len}
+use Rattle.base.specs.Choice.{all_below}
+use Rattle.base.proofs.Choice.{eq-or, le-or-lt, case, clash, all-at, all_of}
 use Rattle.rules.specs.Words.{tab, put}
 use Rattle.rules.proofs.Words.{length-put}
 
@@ -27,6 +32,16 @@ module _ {A : Type 0} where
   pub tab-snoc : (n : ℕ) (f : ℕ → A) → tab (n + 1) f ≡ tab n f ++ (f n ∷ [])
   unfolding tab
   tab-snoc n f = let e : n + 1 ≡ suc n = omega arith in rw e
+
+-- what `(0..n).all(..)` tells, where its test is f
+pub all-in-range : (n : ℕ) (f : ℕ → Bool) (b : Bool) → MatchBool b (AllWithin (λ t. f t ≡ true) (range_with_len 0 n) 0 (length (range_with_len 0 n)))
+    ((k : ℕ) × (k < length (range_with_len 0 n)) × HoldsAt (λ t. f t ≡ false) (range_with_len 0 n) k) → b ≡ all_below n f
+all-in-range n f true m = sym (all_of n f (λ t l. rw (get_or-range_with_len 0 n t 0 l, zero-add t) at (m t 0 (omega arith) (rw (length-range_with_len 0 n) l))))
+all-in-range n f false (k, l, h) =
+    let i : k < n = rw (length-range_with_len 0 n) at l in
+    case (all_below n f)
+    (λ (g : all_below n f ≡ true). clash (all-at n f g k i) (rw (get_or-range_with_len 0 n k 0 i, zero-add k) at (h 0)))
+    (λ (g : all_below n f ≡ false). sym g)
 
 -- ---- parts of words after others were put in
 

@@ -8,38 +8,28 @@ ghost use Rattle.ring.specs.Queue.{RINGS, cell, head, count, wrap, slot_no, good
 
 use base::Sizes;
 
+// As many channels as seven servers have.
+pub const CHANNELS: usize = 49;
+
 // Of each ring: the slot of the first message, and how many wait.
-#[derive(Clone, Copy)]
+#[derive(Clone, Copy, Debug, PartialEq, Eq)]
 pub struct Rings {
-    pub heads: [u8; 49],
-    pub counts: [u8; 49],
+    pub heads: [u8; CHANNELS],
+    pub counts: [u8; CHANNELS],
 }
 
 // Whether every head and every count is in its range.
 pub fn good_rings(depth: u8, r: Rings) -> bool
     ensures { result ≡ good_rings depth r }
 {
-    let mut i: usize = 0;
-    while i < 49 {
-        if depth <= r.heads[i] {
-            return false;
-        }
-        if depth < r.counts[i] {
-            return false;
-        }
-        i += 1;
-    }
-    true
+    r.heads.iter().all(|h| *h < depth) && r.counts.iter().all(|n| *n <= depth)
 }
 
 // Past the last slot of a ring comes its first.
 fn wrap(depth: u8, k: u8) -> u8
     ensures { result ≡ wrap depth k }
 {
-    if k < depth {
-        return k;
-    }
-    k - depth
+    if k < depth { k } else { k - depth }
 }
 
 // The ring of the channel from f to t.
@@ -47,7 +37,7 @@ pub fn channel(z: Sizes, f: u8, t: u8) -> usize
     requires { (z.n ≤ 7) × (Chan z f t) }
     ensures { (result ≡ cell z.n f t) × (result < RINGS) }
 {
-    (z.n as usize) * (f as usize) + (t as usize)
+    usize::from(z.n) * usize::from(f) + usize::from(t)
 }
 
 // How many words a slot has.
@@ -63,25 +53,7 @@ fn slot_at(z: Sizes, depth: u8, c: usize, k: u8) -> usize
     requires { (z.room.0 ≤ 64) × ((depth ≤ 16) × ((c < RINGS) × (k ≤ 16))) }
     ensures { result ≡ msg_size z.room.0 * (depth * c + k) }
 {
-    let m = msg_size(z);
-    m * ((depth as usize) * c + (k as usize))
-}
-
-// The first words of ws into a slot; the part of the queue that starts at the slot is lent on.
-fn fill_slot(queue: &mut [u64], at: usize, size: usize, ws: &[u64])
-    requires { (at + size ≤ length queue.old) × (size ≤ length ws.now) }
-    ensures { queue.new ≡ put queue.old at (take size ws.now) }
-{
-    let b = at + size;
-    words::take_over(&mut queue[at..b], ws, size);
-}
-
-fn clear_part(queue: &mut [u64], at: usize, size: usize)
-    requires { at + size ≤ length queue.old }
-    ensures { queue.new ≡ put queue.old at (zeros size) }
-{
-    let b = at + size;
-    words::clear_from(&mut queue[at..b], 0);
+    msg_size(z) * (usize::from(depth) * c + usize::from(k))
 }
 
 // A message behind the last of its channel.
@@ -90,13 +62,12 @@ pub fn push(z: Sizes, depth: u8, r: Rings, queue: &mut [u64], f: u8, t: u8, ws: 
     ensures { Pushed z depth r queue.old f t (take (msg_size z.room.0) ws.now) result queue.new }
 {
     let c = channel(z, f, t);
-    let n = r.counts[c];
-    let k = wrap(depth, r.heads[c] + n);
+    let k = wrap(depth, r.heads[c] + r.counts[c]);
     let at = slot_at(z, depth, c, k);
     let m = msg_size(z);
-    fill_slot(queue, at, m, ws);
+    queue[at..at + m].copy_from_slice(&ws[..m]);
     let mut s = r;
-    s.counts[c] = n + 1;
+    s.counts[c] += 1;
     s
 }
 
@@ -116,11 +87,11 @@ pub fn pop(z: Sizes, depth: u8, r: Rings, queue: &mut [u64], f: u8, t: u8) -> Ri
 {
     let c = channel(z, f, t);
     let at = front(z, depth, r, f, t);
-    let m = msg_size(z);
-    clear_part(queue, at, m);
+    let end = at + msg_size(z);
+    queue[at..end].fill(0);
     let mut s = r;
     s.heads[c] = wrap(depth, r.heads[c] + 1);
-    s.counts[c] = r.counts[c] - 1;
+    s.counts[c] -= 1;
     s
 }
 
@@ -131,8 +102,8 @@ fn empty_ring(z: Sizes, depth: u8, r: Rings, queue: &mut [u64], f: u8, t: u8) ->
 {
     let c = channel(z, f, t);
     let at = slot_at(z, depth, c, 0);
-    let m = msg_size(z) * (depth as usize);
-    clear_part(queue, at, m);
+    let size = msg_size(z) * usize::from(depth);
+    queue[at..at + size].fill(0);
     let mut s = r;
     s.heads[c] = 0;
     s.counts[c] = 0;
@@ -154,10 +125,8 @@ pub fn empty_channels(z: Sizes, depth: u8, r: Rings, queue: &mut [u64], i: u8) -
     ensures { Emptied z depth r queue.old i result queue.new }
 {
     let mut s = r;
-    let mut k: u8 = 0;
-    while k < z.n {
+    for k in 0..z.n {
         s = empty_pair(z, depth, s, queue, i, k);
-        k += 1;
     }
     s
 }

@@ -1,4 +1,9 @@
 -- Many events, one after the other: what is left of them, from each on.
+use Rattle.std.specs.Prelude.{Result, Ok, Err, is_ok}
+use mir.Val.{bool_byte}
+use Rattle.base.specs.declared.Refusal.{Refusal}
+use Rattle.base.proofs.Refusals.{number-not}
+use Rattle.base.specs.Refusals.{number, code_of}
 use Prim.Native.Nat.{ℕ, zero, suc, ◌+◌, ◌-◌, ◌*◌, ◌/◌, ◌%◌, ◌≤◌, ◌<◌}
 use mathlib.Core.Path.{◌≡◌, refl, sym, ap, ◌∙◌, subst}
 use mathlib.Core.Logic.{◌≢◌}
@@ -8,7 +13,12 @@ use native.Mathlib.Omega.{arith}
 use native.Mathlib.Numerals.{add-one}
 use native.Mathlib.Nat.{mod-lt, div-add-mod, div-lt_iff_lt-mul}
 use lib.Dec.{eqb, leb}
-use lib.ListN.{length, get_or}
+use lib.ListN.{length, take, get_or}
+use lib.Seq.{length-take-le}
+use Rattle.std.specs.Prelude.{Option, None, Some, MatchOption}
+use Rattle.std.specs.Option.{unwrap_or}
+use Rattle.std.specs.List.{AllWithin, HoldsAt}
+use Rattle.std.proofs.lemmas.List.{get_or-take}
 use borrow.Author.Tests.{eq-eqb, ne_eqb, le-leb, lt-leb, lt-ltb, le-ltb}
 use Rattle.base.specs.Choice.{pick, both}
 use Rattle.base.specs.declared.Sizes.{Sizes}
@@ -54,13 +64,23 @@ read-unknown es j a b c d z = rw (ne_eqb _ 1 a, ne_eqb _ 2 b, ne_eqb _ 3 c, ne_e
 
 -- ---- one event
 
-pub on-does : (t : Ran) (e : Event) (h k q o : List ℕ) (a : Told) (h' k' q' o' : List ℕ) (x : ℕ) → Turned t.cluster e h k q o a h' k' q' o' → x ≡ pick (eqb a.code 0) 1 0
-    → On t e h k q o (record { code = 0; met = t.met + 1; taken = t.taken + x; cluster = a.cluster }) h' k' q' o'
+-- an answer counts as one where nothing is refused
+pub taken-one : (r : Result (Unit {0}) Refusal) → bool_byte (is_ok r) ≡ pick (eqb (code_of r) 0) 1 0
+unfolding pick
+taken-one (Ok a) = refl
+taken-one (Err c) = rw (ne_eqb (number c) 0 (number-not c)) refl
+
+pub one-most : (b : Bool) (n : ℕ) → n ≡ bool_byte b → n ≤ 1
+one-most true n e = omega (arith, e)
+one-most false n e = omega (arith, e)
+
+pub on-does : (t : Ran) (e : Event) (h k q o : List ℕ) (a : Told) (h' k' q' o' : List ℕ) (x : ℕ) → Turned t.cluster e h k q o a h' k' q' o' → x ≡ pick (eqb (code_of a.answer) 0) 1 0
+    → On t e h k q o (record { answer = Ok tt; met = t.met + 1; taken = t.taken + x; cluster = a.cluster }) h' k' q' o'
 on-does t e h k q o a h' k' q' o' x d f =
     let z = t.cluster.sizes in
     let depth = t.cluster.depth in
     let w = site_of t.cluster h k q o in
-    let p : is_done (event t.cluster.sizes t.cluster.depth (cluster_of t.cluster.sizes t.cluster.depth (site_of t.cluster h k q o)) e) ≡ eqb a.code 0
+    let p : is_done (event t.cluster.sizes t.cluster.depth (cluster_of t.cluster.sizes t.cluster.depth (site_of t.cluster h k q o)) e) ≡ eqb (code_of a.answer) 0
     = ap is_done d.rules ∙ outcome-done z depth e w (after_of a h' k' q' o') in
     record {
       code = refl;
@@ -76,7 +96,7 @@ on-does t e h k q o a h' k' q' o' x d f =
 -- ---- on the way: t is what the events before `rest` of all left
 
 pub record Midway (c : Cluster) (all rest : List Event) (h k q o : List ℕ) (t : Ran) (h' k' q' o' : List ℕ) : Type 0 where
-  pub code : t.code ≡ 0
+  pub code : code_of t.answer ≡ 0
   pub met : t.met + length rest ≡ length all
   pub few : t.taken ≤ t.met
   pub taken : t.taken + tally c.sizes c.depth (cluster_of c.sizes c.depth (site_of t.cluster h' k' q' o')) rest ≡ tally c.sizes c.depth (cluster_of c.sizes c.depth (site_of c h k q o)) all
@@ -87,7 +107,7 @@ pub record Midway (c : Cluster) (all rest : List Event) (h k q o : List ℕ) (t 
   pub good : Good c.sizes c.depth (site_of t.cluster h' k' q' o')
 
 abbrev pub starting : Cluster → Ran
-starting c = record { code = 0; met = 0; taken = 0; cluster = c }
+starting c = record { answer = Ok tt; met = 0; taken = 0; cluster = c }
 
 pub mid_start : (c : Cluster) (es : List Event) (h k q o : List ℕ) → Good c.sizes c.depth (site_of c h k q o) → Midway c es es h k q o (starting c) h k q o
 mid_start c es h k q o g = record { code = refl; met = omega arith; few = omega arith; taken = omega arith; sizes = refl; depth = refl; site = refl; rules = refl; good = g }
@@ -213,6 +233,23 @@ low-found r n j m l h = sym (low_step r n j l ∙ rw (le-leb 1 (count r j) h)) �
 pub low_end : (r : Rings) (n j : ℕ) → Lowest r n j → n ≤ j → j ≡ lowest_ring r 0 n
 unfolding lowest_ring
 low_end r n j m l = let b : n - j ≡ 0 = omega arith in sym (ap (lowest_ring r j) b) ∙ m
+
+low-upto : (r : Rings) (n j : ℕ) → j ≤ n → ((k : ℕ) → k < j → count r k < 1) → Lowest r n j
+low-upto r n zero l f = low-start r n
+low-upto r n (suc j) l f = rw (← add-one j) (low-on r n j (low-upto r n j (omega arith) (λ k h. f k (omega arith))) (omega arith) (f j (omega arith)))
+
+-- what `position` tells of the first n counts
+pub low-tells : (r : Rings) (n : ℕ) (i : Option ℕ) → n ≤ length r.counts
+    → MatchOption i (AllWithin (λ k. k < 1) (take n r.counts) 0 (length (take n r.counts)))
+    (λ j. (j < length (take n r.counts)) × HoldsAt (λ k. 1 ≤ k) (take n r.counts) j × AllWithin (λ k. k < 1) (take n r.counts) 0 j)
+    → (unwrap_or i n ≡ lowest_ring r 0 n) × (unwrap_or i n ≤ n)
+low-tells r n None l m =
+    let e = length-take-le n r.counts l in
+    (low_end r n n (low-upto r n n (omega arith) (λ k h. rw (get_or-take n r.counts k 0 h) at (m k 0 (omega arith) (omega arith)))) (omega arith), omega arith)
+low-tells r n (Some j) l m =
+    let e = length-take-le n r.counts l in
+    let h : j < n = omega (arith, m.0) in
+    (low-found r n j (low-upto r n j (omega arith) (λ k b. rw (get_or-take n r.counts k 0 (omega arith)) at (m.2 k 0 (omega arith) b))) h (rw (get_or-take n r.counts j 0 h) at (m.1 0)), omega arith)
 
 -- the channel numbered j lies between two servers
 pub channel-in : (z : Sizes) (j : ℕ) → 1 ≤ z.n → j < z.n * z.n → Chan z (j / z.n) (j % z.n)

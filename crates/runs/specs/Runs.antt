@@ -1,7 +1,8 @@
 -- Many events: a run of events from lent words, and settling.
-use Rattle.std.specs.Prelude.{ℕ, zero, suc, ◌+◌, ◌*◌, ◌/◌, ◌%◌, ◌≡◌, Bool, true, List, [], ◌∷◌, eqb, leb, ltb, length, get_or}
+use Rattle.std.specs.Prelude.{ℕ, zero, suc, ◌+◌, ◌*◌, ◌/◌, ◌%◌, ◌≡◌, Bool, true, List, [], ◌∷◌, eqb, leb, ltb, length, get_or, Err}
 use Rattle.base.specs.Choice.{pick, both}
-use Rattle.base.specs.Refusals.{STATE}
+use Rattle.base.specs.Refusals.{code_of, STATE}
+use Rattle.base.specs.declared.Refusal.TheVariants.{State}
 use Rattle.base.specs.declared.Sizes.{Sizes}
 use Rattle.rules.specs.Cluster.{Cluster as Servers, Event, O, R, D, S, play, event, after, is_done}
 use Rattle.ring.specs.declared.Rings.{Rings}
@@ -48,7 +49,7 @@ good_run z depth w es = both (good_site z depth w) (eqb (length es % 3) 0)
 
 -- one event more than t met
 pub record On (t : Ran) (e : Event) (h k q o : List ℕ) (r : Ran) (h' k' q' o' : List ℕ) : Type 0 where
-  pub code : r.code ≡ 0
+  pub code : code_of r.answer ≡ 0
   pub met : r.met ≡ t.met + 1
   pub taken : r.taken ≡ t.taken + pick (is_done (event t.cluster.sizes t.cluster.depth (cluster_of t.cluster.sizes t.cluster.depth (site_of t.cluster h k q o)) e)) 1 0
   pub sizes : r.cluster.sizes ≡ t.cluster.sizes
@@ -59,7 +60,7 @@ pub record On (t : Ran) (e : Event) (h k q o : List ℕ) (r : Ran) (h' k' q' o' 
 
 -- all of es, from a cluster that is well formed
 pub record Does (c : Cluster) (es : List Event) (h k q o : List ℕ) (t : Ran) (h' k' q' o' : List ℕ) : Type 0 where
-  pub code : t.code ≡ 0
+  pub code : code_of t.answer ≡ 0
   pub met : t.met ≡ length es
   pub taken : t.taken ≡ tally c.sizes c.depth (cluster_of c.sizes c.depth (site_of c h k q o)) es
   pub sizes : t.cluster.sizes ≡ c.sizes
@@ -69,12 +70,12 @@ pub record Does (c : Cluster) (es : List Event) (h k q o : List ℕ) (t : Ran) (
   pub good : Good c.sizes c.depth (site_of t.cluster h' k' q' o')
 
 abbrev pub refused_of : Cluster → Ran
-refused_of c = record { code = STATE; met = 0; taken = 0; cluster = c }
+refused_of c = record { answer = Err State; met = 0; taken = 0; cluster = c }
 
 -- many events es of what is well formed (ok), or STATE and every word as it was: how many there were, how many were taken,
 -- the structs and every word afterwards; what the rules do; and it is well formed
 pub record Runs (c : Cluster) (ok : Bool) (es : List Event) (h k q o : List ℕ) (t : Ran) (h' k' q' o' : List ℕ) : Type 0 where
-  pub code : t.code ≡ pick ok 0 STATE
+  pub code : code_of t.answer ≡ pick ok 0 STATE
   pub met : t.met ≡ pick ok (length es) 0
   pub taken : t.taken ≡ pick ok (tally c.sizes c.depth (cluster_of c.sizes c.depth (site_of c h k q o)) es) 0
   pub sizes : t.cluster.sizes ≡ c.sizes

@@ -6,12 +6,13 @@ mod many;
 ghost use Rattle.site.specs.Site.{site_of, cluster_of, good_site};
 ghost use Rattle.runs.specs.Runs.{events_of, good_run, easings, Runs};
 
+use base::Refusal;
 use site::Cluster;
 
-// How many events a run met, and how many of them were taken; 1 if what was lent is not well formed.
+// How many events a run met, and how many of them were taken; refused with STATE if what was lent is not well formed.
 #[derive(Clone, Copy)]
 pub struct Ran {
-    pub code: u8,
+    pub answer: Result<(), Refusal>,
     pub met: usize,
     pub taken: usize,
     pub cluster: Cluster,

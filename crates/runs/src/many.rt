@@ -1,13 +1,14 @@
 // Many events: the cluster is tested once and not at each event.
 ghost use Rattle.std.specs.Prelude.{◌≡◌, ◌+◌, ◌*◌, ◌≤◌, ◌<◌, eqb, length};
 ghost use Rattle.base.specs.Choice.{pick};
+ghost use Rattle.base.specs.Refusals.{code_of};
 ghost use Rattle.base.specs.declared.Sizes.{Sizes};
 ghost use Rattle.site.specs.Site.{site_of, cluster_of, Good};
 ghost use Rattle.turn.specs.Events.{meant};
 ghost use Rattle.runs.specs.Runs.{event_at, events_from, lowest_ring, easings, On, Does, refused_of};
 
 use crate::Ran;
-use base::Sizes;
+use base::{Refusal, Sizes};
 use ring::Rings;
 use site::Cluster;
 use turn::Happening;
@@ -18,32 +19,22 @@ fn read_event(es: &[u64], j: usize) -> Happening
     ensures { (z : Sizes) → meant z result ≡ event_at z es.now j }
 {
     let at = 3 * j;
-    let k = es[at];
     let a = es[at + 1];
     let b = es[at + 2];
-    if k == 1 {
-        return Happening::Oracle(a, b);
+    match es[at] {
+        1 => Happening::Oracle(a, b),
+        2 => Happening::Restart(a),
+        3 => Happening::Deliver(a, b),
+        4 => Happening::Submit(a, b),
+        _ => Happening::Unknown,
     }
-    if k == 2 {
-        return Happening::Restart(a);
-    }
-    if k == 3 {
-        return Happening::Deliver(a, b);
-    }
-    if k == 4 {
-        return Happening::Submit(a, b);
-    }
-    Happening::Unknown
 }
 
 // An event taken is counted.
-fn one_if(code: u8) -> usize
-    ensures { (result ≡ pick (eqb code 0) 1 0) × (result ≤ 1) }
+fn one_if(answer: Result<(), Refusal>) -> usize
+    ensures { (result ≡ pick (eqb (code_of answer) 0) 1 0) × (result ≤ 1) }
 {
-    if code == 0 {
-        return 1;
-    }
-    0
+    usize::from(answer.is_ok())
 }
 
 // One event more.
@@ -61,9 +52,9 @@ fn on<'a>(
     let c = t.cluster;
     let a = turn::turn(c, e, hists, cands, queue, out);
     let d = a.cluster;
-    let k = one_if(a.code);
+    let k = one_if(a.answer);
     Ran {
-        code: 0,
+        answer: Ok(()),
         met: t.met + 1,
         taken: t.taken + k,
         cluster: d,
@@ -84,16 +75,14 @@ pub fn many<'a>(
     ensures { Does c (events_from c.sizes es.now 0 n) hists.old cands.old queue.old out.old result hists.new cands.new queue.new out.new }
 {
     let mut t = Ran {
-        code: 0,
+        answer: Ok(()),
         met: 0,
         taken: 0,
         cluster: c,
     };
-    let mut j: usize = 0;
-    while j < n {
+    for j in 0..n {
         let e = read_event(es, j);
         t = on(t, e, hists, cands, queue, out);
-        j += 1;
     }
     t
 }
@@ -103,15 +92,8 @@ fn lowest(z: Sizes, r: Rings) -> usize
     requires { z.n ≤ 7 }
     ensures { (result ≡ lowest_ring r 0 (z.n * z.n)) × (result ≤ z.n * z.n) }
 {
-    let n = (z.n as usize) * (z.n as usize);
-    let mut j: usize = 0;
-    while j < n {
-        if 1 <= r.counts[j] {
-            return j;
-        }
-        j += 1;
-    }
-    j
+    let n = usize::from(z.n) * usize::from(z.n);
+    r.counts[..n].iter().position(|k| *k >= 1).unwrap_or(n)
 }
 
 // Deliveries, lowest channel first, until none waits or the budget is spent.
@@ -129,11 +111,12 @@ pub fn ease<'a>(
     let z = c.sizes;
     let n = z.n as usize;
     let mut t = Ran {
-        code: 0,
+        answer: Ok(()),
         met: 0,
         taken: 0,
         cluster: c,
     };
+    // Stays: no plainer: `met` is part of the result and the budget bounds it; an index would count the same again.
     while t.met < budget {
         let d = t.cluster;
         let r = d.rings;
@@ -151,7 +134,7 @@ pub fn refused(c: Cluster) -> Ran
     ensures { result ≡ refused_of c }
 {
     Ran {
-        code: 1,
+        answer: Err(Refusal::State),
         met: 0,
         taken: 0,
         cluster: c,

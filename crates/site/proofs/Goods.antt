@@ -1,16 +1,16 @@
 -- A cluster that is well formed: tests and facts.
-use Prim.Native.Nat.{ℕ, ◌+◌, ◌-◌, ◌*◌, ◌≤◌, ◌<◌}
+use Prim.Native.Nat.{ℕ, ◌+◌, ◌-◌, ◌*◌, ◌≤◌}
 use mathlib.Core.Path.{◌≡◌, refl, sym, ap, ◌∙◌}
-use mathlib.Core.Logic.{◌≢◌, ⊎_elim}
 use mathlib.Core.Bool.{Bool, true, false}
 use mathlib.Core.List.{List}
 use native.Mathlib.Omega.{arith}
 use lib.Dec.{eqb, leb}
 use lib.ListN.{length, take, drop}
-use borrow.Author.Tests.{lt-leb, eqb-true, leb-true, eq-eqb, ne_eqb, le-leb}
+use Rattle.std.specs.Prelude.{◌↔◌, IsTrue}
+use borrow.Author.Tests.{eqb-true, leb-true, eq-eqb, le-leb}
 use Rattle.base.specs.Choice.{both, all_below}
 use Rattle.base.specs.declared.Sizes.{Sizes}
-use Rattle.base.proofs.Choice.{both-no, clash, case, both_true, both_yes, eq-or, all-at, all_of}
+use Rattle.base.proofs.Choice.{clash, case, both_true, both_yes, all-at, all_of}
 use Rattle.rules.proofs.WellFormed.{sized}
 use Rattle.rules.specs.Server.{good_sizes}
 use Rattle.rules.specs.Words.{slot_size, good_state}
@@ -19,21 +19,23 @@ use Rattle.site.specs.Parts.{share, part}
 use Rattle.site.specs.Site.{Site, site_of, record_at, good_seat, good_lens, fitting, good_site, Good}
 use Rattle.site.specs.declared.Cluster.{Cluster}
 
+-- ---- `a && b`, where a told of x and b of y
+
+pub and-then : (a b x y : Bool) → a ≡ x → a ≡ true → b ≡ y → b ≡ both x y
+unfolding both
+and-then a b x y e t f = rw (← e, t) f
+
+pub and-else : (a x y : Bool) → a ≡ x → a ≡ false → a ≡ both x y
+unfolding both
+and-else a x y e f = rw (← e, f)
+
 -- ---- sizes
 
--- where b told of the sizes alone
-module _ (z : Sizes) (depth : ℕ) (b : Bool) (e : b ≡ good_sizes z) where
-  pub ranges-not : b ≡ false → false ≡ both (good_sizes z) (both (leb 2 depth) (leb depth 16))
-  unfolding both
-  ranges-not f = rw (← e, f)
-
-  pub ranges-low : depth < 2 → false ≡ both (good_sizes z) (both (leb 2 depth) (leb depth 16))
-  unfolding both
-  ranges-low h = sym (both-no (good_sizes z) _ (rw (lt-leb 2 depth h)))
-
-  pub ranges-are : b ≡ true → 2 ≤ depth → leb depth 16 ≡ both (good_sizes z) (both (leb 2 depth) (leb depth 16))
-  unfolding both
-  ranges-are f h = rw (← e, f, le-leb 2 depth h)
+pub depth-tells : (depth : ℕ) (b : Bool) → IsTrue b ↔ ((2 ≤ depth) × (depth ≤ 16)) → b ≡ both (leb 2 depth) (leb depth 16)
+depth-tells depth true h = let p = h.0 refl in sym (both_yes _ _ (le-leb _ _ p.0) (le-leb _ _ p.1))
+depth-tells depth false h = case (both (leb 2 depth) (leb depth 16))
+    (λ (g : both (leb 2 depth) (leb depth 16) ≡ true). let p = both_true (leb 2 depth) (leb depth 16) g in clash (h.1 (leb-true _ _ p.0, leb-true _ _ p.1)) refl)
+    (λ (g : both (leb 2 depth) (leb depth 16) ≡ false). sym g)
 
 pub ranges-facts : (z : Sizes) (depth : ℕ) (b : Bool) → b ≡ both (good_sizes z) (both (leb 2 depth) (leb depth 16)) → b ≡ true → (good_sizes z ≡ true) × ((2 ≤ depth) × (depth ≤ 16))
 ranges-facts z depth b e t =
@@ -49,32 +51,18 @@ ranges-room z depth b e t =
 
 -- ---- how many words are lent
 
-pub lens-h : (z : Sizes) (depth h k q o : ℕ) → h ≢ 2 * z.room.0 * z.n → false ≡ good_lens z depth h k q o
-unfolding good_lens both
-lens-h z depth h k q o n = rw (ne_eqb h (2 * z.room.0 * z.n) n)
+both-next : (a b c : Bool) → both (both a b) c ≡ both a (both b c)
+unfolding both
+both-next true b c = refl
+both-next false b c = refl
 
-pub lens-k : (z : Sizes) (depth h k q o : ℕ) → h ≡ 2 * z.room.0 * z.n → k ≢ 2 * z.room.0 * z.n → false ≡ good_lens z depth h k q o
-unfolding good_lens both
-lens-k z depth h k q o e n = rw (eq-eqb h (2 * z.room.0 * z.n) e, ne_eqb k (2 * z.room.0 * z.n) n)
-
-pub lens-q : (z : Sizes) (depth h k q o : ℕ) → h ≡ 2 * z.room.0 * z.n → k ≡ 2 * z.room.0 * z.n → q ≢ (4 + 2 * z.room.0) * (depth * (z.n * z.n)) → false ≡ good_lens z depth h k q o
-unfolding good_lens both
-lens-q z depth h k q o e f n = rw (eq-eqb h (2 * z.room.0 * z.n) e, eq-eqb k (2 * z.room.0 * z.n) f, ne_eqb q ((4 + 2 * z.room.0) * (depth * (z.n * z.n))) n)
-
-pub lens-o : (z : Sizes) (depth h k q o : ℕ) → h ≡ 2 * z.room.0 * z.n → k ≡ 2 * z.room.0 * z.n → q ≡ (4 + 2 * z.room.0) * (depth * (z.n * z.n))
-    → leb (6 * (5 + 2 * z.room.0)) o ≡ good_lens z depth h k q o
-unfolding good_lens both
-lens-o z depth h k q o e f g =
+-- two numbers of words told of, then a third, then the last
+pub lens-are : (z : Sizes) (depth h k q o : ℕ) (v w b : Bool) → v ≡ both (eqb h (2 * z.room.0 * z.n)) (eqb k (2 * z.room.0 * z.n)) → w ≡ both v (eqb q ((4 + 2 * z.room.0) * (depth * (z.n * z.n))))
+    → b ≡ both w (leb (6 * (5 + 2 * z.room.0)) o) → b ≡ good_lens z depth h k q o
+unfolding good_lens
+lens-are z depth h k q o v w b e f g =
     let s : 6 * (5 + 2 * z.room.0) ≡ 6 * slot_size z.room.0 = omega arith in
-    rw (eq-eqb h (2 * z.room.0 * z.n) e, eq-eqb k (2 * z.room.0 * z.n) f, eq-eqb q ((4 + 2 * z.room.0) * (depth * (z.n * z.n))) g, s)
-
-pub fit-not : (z : Sizes) (depth h k q o : ℕ) (b : Bool) → b ≡ both (good_sizes z) (both (leb 2 depth) (leb depth 16)) → b ≡ false → false ≡ fitting z depth h k q o
-unfolding fitting both
-fit-not z depth h k q o b e f = rw (← e, f)
-
-pub fit_is : (z : Sizes) (depth h k q o : ℕ) (b r : Bool) → b ≡ both (good_sizes z) (both (leb 2 depth) (leb depth 16)) → b ≡ true → r ≡ good_lens z depth h k q o → r ≡ fitting z depth h k q o
-unfolding fitting both
-fit_is z depth h k q o b r e f g = rw (← e, f) g
+    g ∙ rw (f, e, s) (both-next _ _ _ ∙ both-next _ _ _)
 
 pub record Fits (z : Sizes) (depth h k q o : ℕ) : Type 0 where
   pub sizes : good_sizes z ≡ true
@@ -103,10 +91,6 @@ fit-shown z depth h k q o f = both_yes _ _
 
 -- ---- each server's part
 
-pub seat-not : (c : Cluster) (h k : List ℕ) (i : ℕ) → (record_at c.servers i).me ≢ i → (q o : List ℕ) → false ≡ good_seat c.sizes (site_of c h k q o) i
-unfolding good_seat both
-seat-not c h k i n q o = rw (ne_eqb (record_at c.servers i).me i n)
-
 pub seat-is : (c : Cluster) (h k : List ℕ) (i l : ℕ) (b : Bool) → good_sizes c.sizes ≡ true → (record_at c.servers i).me ≡ i → l ≡ share c.sizes
     → b ≡ both (good_sizes c.sizes) (good_state c.sizes (record_at c.servers i) (take (l * i + l - l * i) (drop (l * i) h)) (take (l * i + l - l * i) (drop (l * i) k)))
     → (q o : List ℕ) → b ≡ good_seat c.sizes (site_of c h k q o) i
@@ -116,37 +100,12 @@ seat-is c h k i l b g e s f q o =
     let v : b ≡ good_state c.sizes (record_at c.servers i) (take l (drop (l * i) h)) (take l (drop (l * i) k)) = rw (u, g) at f in
     rw (eq-eqb (record_at c.servers i).me i e) (v ∙ ap (λ (x : ℕ). good_state c.sizes (record_at c.servers i) (take x (drop (x * i) h)) (take x (drop (x * i) k))) s)
 
--- the servers before i are well formed
-abbrev pub SeatsTo : Cluster → List ℕ → List ℕ → ℕ → Type 0
-SeatsTo c h k i = (q o : List ℕ) (j : ℕ) → j < i → good_seat c.sizes (site_of c h k q o) j ≡ true
-
-pub seats-not : (c : Cluster) (h k : List ℕ) (i : ℕ) (b : Bool) → i < c.sizes.n → ((q o : List ℕ) → b ≡ good_seat c.sizes (site_of c h k q o) i) → b ≡ false
-    → (q o : List ℕ) → false ≡ all_below c.sizes.n (good_seat c.sizes (site_of c h k q o))
-seats-not c h k i b l e f q o = case (all_below c.sizes.n (good_seat c.sizes (site_of c h k q o)))
-    (λ (t : all_below c.sizes.n (good_seat c.sizes (site_of c h k q o)) ≡ true). clash (all-at c.sizes.n _ t i l) (sym (e q o) ∙ f))
-    (λ (t : all_below c.sizes.n (good_seat c.sizes (site_of c h k q o)) ≡ false). sym t)
-
-pub seats-on : (c : Cluster) (h k : List ℕ) (i : ℕ) (b : Bool) → SeatsTo c h k i → ((q o : List ℕ) → b ≡ good_seat c.sizes (site_of c h k q o) i) → b ≡ true → SeatsTo c h k (i + 1)
-seats-on c h k i b s e t q o j l = ⊎_elim (λ (x : j ≡ i). rw x (sym (e q o) ∙ t)) (λ (n : j ≢ i). s q o j (omega arith)) (eq-or j i)
-
-pub seats-all : (c : Cluster) (h k : List ℕ) (i : ℕ) → SeatsTo c h k i → c.sizes.n ≤ i → (q o : List ℕ) → true ≡ all_below c.sizes.n (good_seat c.sizes (site_of c h k q o))
-seats-all c h k i s l q o = sym (all_of c.sizes.n _ (λ j m. s q o j (omega arith)))
-
 -- ---- all
 
-pub site-unfit : (z : Sizes) (depth : ℕ) (w : Site) (b : Bool) → b ≡ fitting z depth (length w.hists) (length w.cands) (length w.queue) (length w.box) → b ≡ false → false ≡ good_site z depth w
-unfolding good_site both
-site-unfit z depth w b e f = rw (← e, f)
-
-pub site-unringed : (z : Sizes) (depth : ℕ) (w : Site) (b r : Bool) → b ≡ fitting z depth (length w.hists) (length w.cands) (length w.queue) (length w.box) → b ≡ true
-    → r ≡ good_rings depth w.rings → r ≡ false → false ≡ good_site z depth w
-unfolding good_site both
-site-unringed z depth w b r e f g h = rw (← e, f, ← g, h)
-
-pub site-is : (z : Sizes) (depth : ℕ) (w : Site) (b r s : Bool) → b ≡ fitting z depth (length w.hists) (length w.cands) (length w.queue) (length w.box) → b ≡ true
-    → r ≡ good_rings depth w.rings → r ≡ true → s ≡ all_below z.n (good_seat z w) → s ≡ good_site z depth w
-unfolding good_site both
-site-is z depth w b r s e f g h k = rw (← e, f, ← g, h) k
+pub site-are : (z : Sizes) (depth : ℕ) (w : Site) (v b : Bool) → v ≡ both (fitting z depth (length w.hists) (length w.cands) (length w.queue) (length w.box)) (good_rings depth w.rings)
+    → b ≡ both v (all_below z.n (good_seat z w)) → b ≡ good_site z depth w
+unfolding good_site
+site-are z depth w v b e f = f ∙ rw e (both-next (fitting z depth (length w.hists) (length w.cands) (length w.queue) (length w.box)) (good_rings depth w.rings) (all_below z.n (good_seat z w)))
 
 seat-facts : (z : Sizes) (w : Site) (i : ℕ) → good_seat z w i ≡ true → ((record_at w.servers i).me ≡ i) × (good_state z (record_at w.servers i) (part z i w.hists) (part z i w.cands) ≡ true)
 unfolding good_seat

@@ -11,8 +11,7 @@ use Rattle.rules.specs.Words.{put}
 use Rattle.rules.proofs.Words.{mid-put}
 use Rattle.ring.specs.declared.Rings.{Rings}
 use Rattle.server.specs.declared.Event.{Event}
-use Rattle.server.specs.declared.Answer.{Answer}
-use Rattle.server.specs.Whole.{Known}
+use Rattle.server.specs.Whole.{Reply, Known}
 use Rattle.site.specs.Parts.{share, part}
 use Rattle.turn.specs.Act.{Set, Acts, Seat, Enacts}
 use Rattle.site.proofs.Seats.{good-lens}
@@ -27,7 +26,7 @@ module _ (z : Sizes) (depth : ℕ) (r : Rings) (s : State) (ev : Event) (h k m o
   pub enact-asks : Set z depth r s × Known z s ev (lent z s h) (lent z s k) m o
   enact-asks = (g.set, rw (width z s) g.known)
 
-  pub enact-does : (a : Answer) (y x o' : List ℕ) → Acts z depth r s ev (lent z s h) (lent z s k) m o a y x o'
+  pub enact-does : (a : Reply) (y x o' : List ℕ) → Acts z depth r s ev (lent z s h) (lent z s k) m o a y x o'
       → Enacts z depth r s ev h k m o a (put_mid (share z * s.me) (share z * s.me + share z - share z * s.me) h y) (put_mid (share z * s.me) (share z * s.me + share z - share z * s.me) k x) o'
   enact-does a y x o' d =
       let b : Acts z depth r s ev (part z s.me h) (part z s.me k) m o a y x o' = rw (width z s) at d in

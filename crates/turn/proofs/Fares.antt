@@ -1,4 +1,8 @@
 -- Three ways that an event at one server ends: all stays, the message handed over is dropped, or the event is taken.
+use Rattle.std.specs.Prelude.{Result, Ok}
+use Rattle.server.specs.Whole.{Reply}
+use Rattle.base.specs.declared.Refusal.{Refusal}
+use Rattle.base.specs.Refusals.{code_of, ROOM}
 use Prim.Native.Nat.{ℕ, zero, suc, ◌+◌, ◌*◌, ◌≤◌, ◌<◌}
 use mathlib.Core.Path.{◌≡◌, refl, sym, ap, ◌∙◌, subst}
 use mathlib.Core.Logic.{◌≢◌, ⊎_elim}
@@ -9,7 +13,6 @@ use lib.Dec.{eqb, leb}
 use lib.ListN.{length, set}
 use borrow.Author.Tests.{ne_eqb}
 use Rattle.base.specs.Choice.{pick, both, upd}
-use Rattle.base.specs.Refusals.{ROOM}
 use Rattle.base.specs.declared.Sizes.{Sizes}
 use Rattle.base.proofs.Choice.{clash, eq-or, upd_same}
 use Rattle.rules.specs.Message.{Send}
@@ -27,7 +30,6 @@ use Rattle.post.specs.Room.{how_many}
 use Rattle.post.proofs.Rooms.{post-length, all_same, waits}
 use Rattle.post.proofs.Box.{length-boxed, box_read}
 use Rattle.server.specs.declared.Event.{Event}
-use Rattle.server.specs.declared.Answer.{Answer}
 use Rattle.turn.specs.Act.{room_for, Enacts}
 use Rattle.site.specs.Site.{Site, site_of, record_at, server_at, cluster_of, Good}
 use Rattle.turn.specs.Events.{After, stays, sent_rings, sent_queue, answered, asked}
@@ -56,7 +58,7 @@ all-tab P (suc n) f a j l =
 
 module _ (c : Cluster) (h k q o : List ℕ) (g : Good c.sizes c.depth (site_of c h k q o)) (i : ℕ) (hi : i < c.sizes.n) (ev : Event) (m : List ℕ) (r : Rings) (p : List ℕ) (rest : Channels)
     (row : (b : Bool) (t : Server) (out : List Send) → asked c.sizes (site_of c h k q o) i ev m ≡ taken b t out → (j : ℕ) → j < c.sizes.n → length (rest i j) ≡ count c.rings (cell c.sizes.n i j))
-    (a : Answer) (h' k' o' : List ℕ) (E : Enacts c.sizes c.depth c.rings (record_at c.servers i) ev h k m o a h' k' o') where
+    (a : Reply) (h' k' o' : List ℕ) (E : Enacts c.sizes c.depth c.rings (record_at c.servers i) ev h k m o a h' k' o') where
   abbrev z : Sizes
   z = c.sizes
 
@@ -94,15 +96,15 @@ module _ (c : Cluster) (h k q o : List ℕ) (g : Good c.sizes c.depth (site_of c
         rw (F.1.is, y, F.0))
         S.why
 
-    pub fare-stood : Fared c w i r p rest x (record { code = a.code; cluster = c }) h' k' q o'
+    pub fare-stood : (v : Result (Unit {0}) Refusal) → code_of v ≡ a.code → Fared c w i r p rest x (record { answer = v; cluster = c }) h' k' q o'
     unfolding pick
-    fare-stood =
+    fare-stood v V =
         let S = fate-stood z c.depth w g i hi ev m a h' k' o' E n in
         let e = stays-words S.3 in
         let y : eqb a.code 0 ≡ false = ne_eqb a.code 0 n in
         rw (S.0, S.1, S.2) (record {
-          leaves = record { code = ap (λ (u : After). u.code) (sym e); sizes = refl; depth = refl; site = ap (λ (u : After). u.site) (sym e) };
-          rules = λ b. rw y (stays-rules S.3 b);
+          leaves = record { code = V ∙ ap (λ (u : After). u.code) (sym e); sizes = refl; depth = refl; site = ap (λ (u : After). u.site) (sym e) };
+          rules = λ b. rw (V, y) (stays-rules S.3 b);
           good = g;
         })
 
@@ -116,15 +118,15 @@ module _ (c : Cluster) (h k q o : List ℕ) (g : Good c.sizes c.depth (site_of c
         (λ (F : (a.code ≡ ROOM) × Full z c.depth c.rings i x). let y : drops ROOM ≡ true = rw F.0 at d in clash y refl)
         S.why
 
-    pub fare-dropped : Fared c w i r p rest x (record { code = a.code; cluster = record { sizes = c.sizes; depth = c.depth; servers = c.servers; rings = r' } }) h' k' q' o'
+    pub fare-dropped : (v : Result (Unit {0}) Refusal) → code_of v ≡ a.code → Fared c w i r p rest x (record { answer = v; cluster = record { sizes = c.sizes; depth = c.depth; servers = c.servers; rings = r' } }) h' k' q' o'
     unfolding pick answered answer cluster_of server_at
-    fare-dropped =
+    fare-dropped v V =
         let S = fate-stood z c.depth w g i hi ev m a h' k' o' E n in
         let e = refuses S.3 in
         let y : eqb a.code 0 ≡ false = ne_eqb a.code 0 n in
         rw (S.0, S.1, S.2) (record {
-          leaves = rw (e, d) (record { code = refl; sizes = refl; depth = refl; site = λ j. record { servers = c.servers; rings = L.rings j; hists = h; cands = k; queue = L.words j; box = o } });
-          rules = λ b. rw (y, e, d) (ap (λ (u : Channels). told a.code (record { srv = server_at z w; chan = u })) (sym L.chans));
+          leaves = rw (e, d) (record { code = V; sizes = refl; depth = refl; site = λ j. record { servers = c.servers; rings = L.rings j; hists = h; cands = k; queue = L.words j; box = o } });
+          rules = λ b. rw (V, y, e, d) (ap (λ (u : Channels). told a.code (record { srv = server_at z w; chan = u })) (sym L.chans));
           good = record { sizes = g.sizes; deep = g.deep; ringed = L.good; seven = g.seven; hists = g.hists; cands = g.cands; box = g.box; me = g.me; state = g.state };
         })
 
@@ -187,7 +189,7 @@ module _ (c : Cluster) (h k q o : List ℕ) (g : Good c.sizes c.depth (site_of c
       waiting : chans z c.depth r' q' ≡ post i D.taken.out (pick a.empties (emptied i rest) rest)
       waiting = L.chans ∙ ap (λ (u : Channels). post i (sends_at z.room.0 o' a.sent) (pick a.empties (emptied i u) u)) C ∙ ap (λ (u : List Send). post i u (pick a.empties (emptied i rest) rest)) reads
 
-      pub fare-taken : Fared c w i r p rest x (record { code = 0; cluster = seat_of c i a.state r' }) h' k' q' o'
+      pub fare-taken : Fared c w i r p rest x (record { answer = Ok tt; cluster = seat_of c i a.state r' }) h' k' q' o'
       unfolding pick answered answer cluster_of
       fare-taken =
           let f : room_for z c.depth c.rings i (taken a.empties t D.taken.out) ≡ true = rw D.taken.is at D.taken.room in

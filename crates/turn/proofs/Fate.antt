@@ -20,8 +20,7 @@ use Rattle.rules.proofs.Trees.{All}
 use Rattle.rules.proofs.Kept.{Sendable, step_kept}
 use Rattle.ring.specs.declared.Rings.{Rings}
 use Rattle.server.specs.declared.Event.{Event}
-use Rattle.server.specs.declared.Answer.{Answer}
-use Rattle.server.specs.Whole.{answer_of, lent_len, six, stay, written, Does, Took}
+use Rattle.server.specs.Whole.{Reply, answer_of, lent_len, six, stay, written, Does, Took}
 use Rattle.server.proofs.Laws.{facts, input_of, answer-is}
 use Rattle.site.specs.Parts.{share, part}
 use Rattle.turn.specs.Act.{room_for, acted, Seat, Enacts, acted_at}
@@ -43,7 +42,7 @@ pub record Stood (z : Sizes) (depth : ℕ) (r : Rings) (i : ℕ) (x : Res) (code
   pub some : code ≢ 0
   pub why : (x ≡ refused code) ⊎ ((code ≡ ROOM) × Full z depth r i x)
 
-pub record Taken (z : Sizes) (depth : ℕ) (r : Rings) (i : ℕ) (o : List ℕ) (x : Res) (a : Answer) (t : Server) (o' : List ℕ) : Type 0 where
+pub record Taken (z : Sizes) (depth : ℕ) (r : Rings) (i : ℕ) (o : List ℕ) (x : Res) (a : Reply) (t : Server) (o' : List ℕ) : Type 0 where
   pub out : List Send
   pub is : x ≡ taken a.empties t out
   pub room : room_for z depth r i x ≡ true
@@ -51,7 +50,7 @@ pub record Taken (z : Sizes) (depth : ℕ) (r : Rings) (i : ℕ) (o : List ℕ) 
   pub state : a.state ≡ state_of i t
   pub box : o' ≡ boxed z.room.0 o 0 out
 
-module _ (z : Sizes) (depth : ℕ) (r : Rings) (s : State) (h k o : List ℕ) (a : Answer) (h' k' o' : List ℕ) where
+module _ (z : Sizes) (depth : ℕ) (r : Rings) (s : State) (h k o : List ℕ) (a : Reply) (h' k' o' : List ℕ) where
   stood-words : (x : Res) → Does (acted z depth r s h k o x) a h' k' o' → a.code ≢ 0 → (h' ≡ h) × (k' ≡ k) × (o' ≡ o) × Stood z depth r s.me x a.code
   unfolding acted room_for written pick
   stood-words (refused κ) d n = (d.hist, d.cand, d.box, record { some = n; why = inl (ap refused (sym d.code)) })
@@ -88,7 +87,7 @@ module _ (z : Sizes) (depth : ℕ) (w : Site) (g : Good z depth w) (i : ℕ) (hi
     cands = rw (g.me i hi) (part_in z i z.n (length w.cands) hi g.cands);
   }
 
-  module _ (a : Answer) (h' k' o' : List ℕ) (E : Enacts z depth w.rings (record_at w.servers i) ev w.hists w.cands m w.box a h' k' o') where
+  module _ (a : Reply) (h' k' o' : List ℕ) (E : Enacts z depth w.rings (record_at w.servers i) ev w.hists w.cands m w.box a h' k' o') where
     abbrev hp : List ℕ
     hp = (acted_at z depth w.rings (record_at w.servers i) ev w.hists w.cands m w.box).hist
 

@@ -2,6 +2,7 @@
 use Prim.Native.Nat.{ℕ}
 use mathlib.Core.Path.{◌≡◌, sym, ◌∙◌}
 use mathlib.Core.List.{List}
+use Rattle.base.proofs.Refusals.{code-one}
 use Rattle.rules.specs.Cluster.{Event}
 use Rattle.site.specs.declared.Cluster.{Cluster}
 use Rattle.site.specs.declared.Told.{Told}
@@ -13,7 +14,7 @@ pub one_left : (c : Cluster) (x : After) (t u : Told) (h k q o h' k' q' o' : Lis
 one_left c x t u h k q o h' k' q' o' a b =
     let p = a.code ∙ sym b.code in
     let d = same-cluster t.cluster u.cluster h k q o h' k' q' o' (a.sizes ∙ sym b.sizes) (a.depth ∙ sym b.depth) (a.site ∙ sym b.site) in (
-      (λ j. record { code = p j; cluster = d j }),
+      (λ j. record { answer = code-one t.answer u.answer p j; cluster = d j }),
       same-words t.cluster u.cluster h k q o h' k' q' o' (a.sizes ∙ sym b.sizes) (a.depth ∙ sym b.depth) (a.site ∙ sym b.site),
     )
 

@@ -1,4 +1,8 @@
 -- The whole way of an event: what is asked of one server, and what is left of it in the rings and the words.
+use Rattle.std.specs.Prelude.{Result, Ok, Err}
+use Rattle.base.specs.declared.Refusal.{Refusal}
+use Rattle.base.specs.declared.Refusal.TheVariants.{Event as EventR}
+use Rattle.base.specs.Refusals.{code_of, EVENT}
 use Prim.Native.Nat.{ℕ, ◌+◌, ◌-◌, ◌*◌, ◌≤◌, ◌<◌}
 use mathlib.Core.Path.{◌≡◌, refl, sym, ap, ◌∙◌, subst}
 use mathlib.Core.Logic.{◌≢◌, inl, inr, ⊎_elim}
@@ -10,7 +14,6 @@ use lib.ListN.{length, take, drop, length-drop}
 use lib.Seq.{length-take-le}
 use borrow.Author.Tests.{le-leb, leb-true, eq-eqb, lt-ltb, le-ltb, ltb-true}
 use Rattle.base.specs.Choice.{pick, both}
-use Rattle.base.specs.Refusals.{EVENT}
 use Rattle.base.specs.declared.Sizes.{Sizes}
 use Rattle.base.proofs.Choice.{case, both_true, upd₂-row, clash, le-or-lt}
 use Rattle.rules.specs.declared.State.{State}
@@ -25,8 +28,7 @@ use Rattle.ring.specs.Queue.{cell, head, count, wrap, chans, Ringed, Chan, Poppe
 use Rattle.ring.proofs.Laws.{wrap-low, ring-at, cell-low, slot-in, chan-count, chan-out, front-is, front-none}
 use Rattle.server.specs.declared.Event.{Event as Asked}
 use Rattle.server.specs.declared.Event.TheVariants.{Oracle, Restart, Deliver, Submit, Unknown}
-use Rattle.server.specs.declared.Answer.{Answer}
-use Rattle.server.specs.Whole.{answer_of, lent_len}
+use Rattle.server.specs.Whole.{Reply, answer_of, lent_len}
 use Rattle.site.specs.Parts.{part}
 use Rattle.turn.specs.Act.{Seat, Enacts}
 use Rattle.site.specs.Site.{Site, site_of, record_at, seated, server_at, cluster_of, Good}
@@ -54,16 +56,16 @@ module _ (c : Cluster) (h k q o : List ℕ) (g : Good c.sizes c.depth (site_of c
   pub local-seat : lent_len c.sizes ev 0 ≡ true → Seat c.sizes c.depth c.rings (record_at c.servers i) ev h k [] o
   local-seat l = seat-at c.sizes c.depth (site_of c h k q o) g i hi ev [] l
 
-  module _ (a : Answer) (h' k' o' : List ℕ) (E : Enacts c.sizes c.depth c.rings (record_at c.servers i) ev h k [] o a h' k' o') where
-    pub local-stood : a.code ≢ 0 → Local c i ev h k q o (record { code = a.code; cluster = c }) h' k' q o'
+  module _ (a : Reply) (h' k' o' : List ℕ) (E : Enacts c.sizes c.depth c.rings (record_at c.servers i) ev h k [] o a h' k' o') where
+    pub local-stood : (v : Result (Unit {0}) Refusal) → code_of v ≡ a.code → a.code ≢ 0 → Local c i ev h k q o (record { answer = v; cluster = c }) h' k' q o'
     unfolding cluster_of
-    local-stood n = fare-stood c h k q o g i hi ev [] c.rings q all row a h' k' o' E n (pick_same (drops a.code) _) (pick_same (drops a.code) _)
+    local-stood v V n = fare-stood c h k q o g i hi ev [] c.rings q all row a h' k' o' E n (pick_same (drops a.code) _) (pick_same (drops a.code) _) v V
 
     pub local-ships : a.code ≡ 0 → Ships c.sizes c.depth c.rings q i a.empties o' a.sent
     local-ships n = fare-ships c h k q o g i hi ev [] c.rings q all row a h' k' o' E n g.ringed refl
 
     pub local-taken : (r' : Rings) (q' : List ℕ) (d : Cluster) → a.code ≡ 0 → Shipped c.sizes c.depth c.rings q i a.empties o' a.sent r' q' → d ≡ seat_of c i a.state r'
-        → Local c i ev h k q o (record { code = 0; cluster = d }) h' k' q' o'
+        → Local c i ev h k q o (record { answer = Ok tt; cluster = d }) h' k' q' o'
     local-taken r' q' d n L e = rw e (fare-taken c h k q o g i hi ev [] c.rings q all row a h' k' o' E n g.ringed refl r' q' L)
 
 -- ---- the delivery of the first message from f to i
@@ -141,18 +143,18 @@ module _ (c : Cluster) (h k q o : List ℕ) (g : Good c.sizes c.depth (site_of c
             (seat-at c.sizes c.depth (site_of c h k q o) g i hi (Deliver f) first (eq-eqb _ _ l));
       }
 
-  module _ (a : Answer) (h' k' o' : List ℕ) (E : Enacts c.sizes c.depth c.rings (record_at c.servers i) (Deliver f) h k (first_words c.sizes c.depth c.rings f (record_at c.servers i).me q) o a h' k' o') where
+  module _ (a : Reply) (h' k' o' : List ℕ) (E : Enacts c.sizes c.depth c.rings (record_at c.servers i) (Deliver f) h k (first_words c.sizes c.depth c.rings f (record_at c.servers i).me q) o a h' k' o') where
     E' : Enacts c.sizes c.depth c.rings (record_at c.servers i) (Deliver f) h k first o a h' k' o'
     E' = subst (λ (j : ℕ). Enacts c.sizes c.depth c.rings (record_at c.servers i) (Deliver f) h k (first_words c.sizes c.depth c.rings f j q) o a h' k' o') (g.me i hi) E
 
-    pub delivered-stood : a.code ≢ 0 → drops a.code ≡ false → Delivered c f i h k q o (record { code = a.code; cluster = c }) h' k' q o'
+    pub delivered-stood : (v : Result (Unit {0}) Refusal) → code_of v ≡ a.code → a.code ≢ 0 → drops a.code ≡ false → Delivered c f i h k q o (record { answer = v; cluster = c }) h' k' q o'
     unfolding pick
-    delivered-stood n d = fare-stood c h k q o g i hi (Deliver f) first (popped_rings c f i) (popped_queue c f i q) (popped_chans c f i q) row-d a h' k' o' E' n (rw d) (rw d)
+    delivered-stood v V n d = fare-stood c h k q o g i hi (Deliver f) first (popped_rings c f i) (popped_queue c f i q) (popped_chans c f i q) row-d a h' k' o' E' n (rw d) (rw d) v V
 
     module _ (r₁ : Rings) (q₁ : List ℕ) (P : Popped c.sizes c.depth c.rings q f i r₁ q₁) where
-      pub delivered-dropped : (d : Cluster) → a.code ≢ 0 → drops a.code ≡ true → d ≡ record { sizes = c.sizes; depth = c.depth; servers = c.servers; rings = r₁ }
-          → Delivered c f i h k q o (record { code = a.code; cluster = d }) h' k' q₁ o'
-      delivered-dropped d n y e = rw e (fare-dropped c h k q o g i hi (Deliver f) first (popped_rings c f i) (popped_queue c f i q) (popped_chans c f i q) row-d a h' k' o' E' n y r₁ q₁ P)
+      pub delivered-dropped : (v : Result (Unit {0}) Refusal) → code_of v ≡ a.code → (d : Cluster) → a.code ≢ 0 → drops a.code ≡ true → d ≡ record { sizes = c.sizes; depth = c.depth; servers = c.servers; rings = r₁ }
+          → Delivered c f i h k q o (record { answer = v; cluster = d }) h' k' q₁ o'
+      delivered-dropped v V d n y e = rw e (fare-dropped c h k q o g i hi (Deliver f) first (popped_rings c f i) (popped_queue c f i q) (popped_chans c f i q) row-d a h' k' o' E' n y r₁ q₁ P v V)
 
       ringed : Ringed c.sizes c.depth (popped_rings c f i) (popped_queue c f i q)
       ringed = subst (λ (u : List ℕ). Ringed c.sizes c.depth (popped_rings c f i) u) P.words (subst (λ (u : Rings). Ringed c.sizes c.depth u q₁) P.rings P.good)
@@ -167,7 +169,7 @@ module _ (c : Cluster) (h k q o : List ℕ) (g : Good c.sizes c.depth (site_of c
           (subst (λ (u : Rings). Ships c.sizes c.depth u (popped_queue c f i q) i a.empties o' a.sent) (sym P.rings) F)
 
       pub delivered-taken : (r' : Rings) (q' : List ℕ) (d : Cluster) → a.code ≡ 0 → Shipped c.sizes c.depth r₁ q₁ i a.empties o' a.sent r' q' → d ≡ seat_of c i a.state r'
-          → Delivered c f i h k q o (record { code = 0; cluster = d }) h' k' q' o'
+          → Delivered c f i h k q o (record { answer = Ok tt; cluster = d }) h' k' q' o'
       delivered-taken r' q' d n L e =
           let L' : Shipped c.sizes c.depth (popped_rings c f i) (popped_queue c f i q) i a.empties o' a.sent r' q'
           = subst (λ (u : List ℕ). Shipped c.sizes c.depth (popped_rings c f i) u i a.empties o' a.sent r' q') P.words
@@ -196,7 +198,7 @@ module _ (c : Cluster) (h k q o : List ℕ) (g : Good c.sizes c.depth (site_of c
 
   -- ---- no such server, or nothing waits
 
-  pub turned_none : (e : Event) → event_of c.sizes c.depth w e ≡ stays EVENT w → event c.sizes c.depth was e ≡ told EVENT was → Turned c e h k q o (record { code = 2; cluster = c }) h k q o
+  pub turned_none : (e : Event) → event_of c.sizes c.depth w e ≡ stays EVENT w → event c.sizes c.depth was e ≡ told EVENT was → Turned c e h k q o (record { answer = Err EventR; cluster = c }) h k q o
   unfolding outcome_of pick
   turned_none e a b = record { leaves = rw a (record { code = refl; sizes = refl; depth = refl; site = refl }); rules = b; good = g }
 
@@ -225,7 +227,7 @@ module _ (c : Cluster) (h k q o : List ℕ) (g : Good c.sizes c.depth (site_of c
   alone-lent Unknown y = clash y refl
 
   module _ (s : ℕ) where
-    pub alone-unknown : (ev : Asked) → alone ev ≡ true → c.sizes.n ≤ s → Turned c (ruled s ev) h k q o (record { code = 2; cluster = c }) h k q o
+    pub alone-unknown : (ev : Asked) → alone ev ≡ true → c.sizes.n ≤ s → Turned c (ruled s ev) h k q o (record { answer = Err EventR; cluster = c }) h k q o
     unfolding alone ruled event_of local event at pick
     alone-unknown (Oracle x) y l = turned_none (O s x) (rw (unknown s l)) (rw (unknown s l))
     alone-unknown Restart y l = turned_none (R s) (rw (unknown s l)) (rw (unknown s l))
@@ -246,30 +248,30 @@ module _ (c : Cluster) (h k q o : List ℕ) (g : Good c.sizes c.depth (site_of c
       unfolding asked answer_of step on_oracle run
       out_of_range = rw (unknown x l)
 
-      oracle-known : s < c.sizes.n → Turned c (O s x) h k q o (record { code = 2; cluster = c }) h k q o
+      oracle-known : s < c.sizes.n → Turned c (O s x) h k q o (record { answer = Err EventR; cluster = c }) h k q o
       unfolding event_of local event at answered answer drops both pick answer_of
       oracle-known m = turned_none (O s x) (rw (known s m, out_of_range)) (rw (known s m, asked_is s (Oracle x) [] (oracle x) m refl, out_of_range))
 
-      pub oracle-range : Turned c (O s x) h k q o (record { code = 2; cluster = c }) h k q o
+      pub oracle-range : Turned c (O s x) h k q o (record { answer = Err EventR; cluster = c }) h k q o
       unfolding alone ruled
       oracle-range = ⊎_elim (alone-unknown (Oracle x) refl) oracle-known (le-or-lt c.sizes.n s)
 
   -- ---- a delivery
 
   module _ (f t : ℕ) where
-    delivery-none : waits c.sizes c.rings f t ≡ false → chans c.sizes c.depth c.rings q f t ≡ [] → Turned c (D f t) h k q o (record { code = 2; cluster = c }) h k q o
+    delivery-none : waits c.sizes c.rings f t ≡ false → chans c.sizes c.depth c.rings q f t ≡ [] → Turned c (D f t) h k q o (record { answer = Err EventR; cluster = c }) h k q o
     unfolding event_of delivery event hand cluster_of pick
     delivery-none a b = turned_none (D f t) (rw a) (rw b)
 
-    pub delivery-sender : c.sizes.n ≤ f → Turned c (D f t) h k q o (record { code = 2; cluster = c }) h k q o
+    pub delivery-sender : c.sizes.n ≤ f → Turned c (D f t) h k q o (record { answer = Err EventR; cluster = c }) h k q o
     unfolding waits both
     delivery-sender l = delivery-none (rw (unknown f l)) (chan-out c.sizes c.depth c.rings q f t (inl l))
 
-    pub delivery-receiver : f < c.sizes.n → c.sizes.n ≤ t → Turned c (D f t) h k q o (record { code = 2; cluster = c }) h k q o
+    pub delivery-receiver : f < c.sizes.n → c.sizes.n ≤ t → Turned c (D f t) h k q o (record { answer = Err EventR; cluster = c }) h k q o
     unfolding waits both
     delivery-receiver m l = delivery-none (rw (known f m, unknown t l)) (chan-out c.sizes c.depth c.rings q f t (inr l))
 
-    pub delivery-empty : f < c.sizes.n → t < c.sizes.n → count c.rings (cell c.sizes.n f t) ≡ 0 → Turned c (D f t) h k q o (record { code = 2; cluster = c }) h k q o
+    pub delivery-empty : f < c.sizes.n → t < c.sizes.n → count c.rings (cell c.sizes.n f t) ≡ 0 → Turned c (D f t) h k q o (record { answer = Err EventR; cluster = c }) h k q o
     unfolding waits both
     delivery-empty m l e = delivery-none (rw (known f m, known t l, e)) (front-none c.sizes c.depth c.rings q f t (record { sender = m; receiver = l }) e)
 

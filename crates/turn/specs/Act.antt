@@ -1,7 +1,8 @@
 -- An event at one server of the cluster: the rules' answer, unless a channel would pass its depth.
-use Rattle.std.specs.Prelude.{ℕ, ◌+◌, ◌*◌, ◌≤◌, ◌<◌, ◌≡◌, Bool, true, not, List, eqb, leb, length}
-use Rattle.base.specs.Choice.{pick, either, all_below}
+use Rattle.std.specs.Prelude.{ℕ, ◌+◌, ◌*◌, ◌≤◌, ◌<◌, ◌≡◌, Bool, true, List, leb, length, Result, Ok, Err}
+use Rattle.base.specs.Choice.{pick, all_below}
 use Rattle.base.specs.Refusals.{ROOM}
+use Rattle.base.specs.declared.Refusal.{Refusal}
 use Rattle.base.specs.declared.Sizes.{Sizes}
 use Rattle.rules.specs.declared.State.{State}
 use Rattle.rules.specs.Tree.{Res, refused, taken}
@@ -11,8 +12,7 @@ use Rattle.ring.specs.Queue.{cell, count, good_rings}
 use Rattle.post.specs.Room.{fits}
 use Rattle.plan.specs.declared.Plan.{Plan}
 use Rattle.server.specs.declared.Event.{Event}
-use Rattle.server.specs.declared.Answer.{Answer}
-use Rattle.server.specs.Whole.{answer_of, Known, Out, stay, written, Does, Took}
+use Rattle.server.specs.Whole.{answer_of, Known, Out, Reply, stay, written, Does, Took}
 use Rattle.post.specs.Room.{how_many}
 use Rattle.site.specs.Parts.{share, part}
 
@@ -22,8 +22,9 @@ room_for z depth r i (refused k) = true
 room_for z depth r i (taken b s out) = all_below z.n (λ t. leb (pick b 0 (count r (cell z.n i t)) + how_many out t) depth)
 
 -- the same of a plan
-unfoldable pub may_send : Sizes → ℕ → Rings → ℕ → Plan → Bool
-may_send z depth r i p = either (not (eqb p.code 0)) (fits z depth r i p.empties p.one.to p.two.to)
+unfoldable pub may_send : Sizes → ℕ → Rings → ℕ → Result Plan Refusal → Bool
+may_send z depth r i (Ok p) = fits z depth r i p.empties p.one.to p.two.to
+may_send z depth r i (Err k) = true
 
 -- all that it leaves: ROOM leaves every word as it was
 unfoldable pub acted : Sizes → ℕ → Rings → State → List ℕ → List ℕ → List ℕ → Res → Out
@@ -35,7 +36,7 @@ pub record Set (z : Sizes) (depth : ℕ) (r : Rings) (s : State) : Type 0 where
   pub rings : good_rings depth r ≡ true
   pub me : s.me < z.n
 
-pub record Acts (z : Sizes) (depth : ℕ) (r : Rings) (s : State) (ev : Event) (h k m o : List ℕ) (a : Answer) (h' k' o' : List ℕ) : Type 0 where
+pub record Acts (z : Sizes) (depth : ℕ) (r : Rings) (s : State) (ev : Event) (h k m o : List ℕ) (a : Reply) (h' k' o' : List ℕ) : Type 0 where
   pub does : Does (acted z depth r s h k o (answer_of z s ev h k m)) a h' k' o'
   pub kept : good_state z a.state h' k' ≡ true
   pub took : a.code ≡ 0 → Took (answer_of z s ev h k m) (server_of a.state h' k')
@@ -52,7 +53,7 @@ pub record Seat (z : Sizes) (depth : ℕ) (r : Rings) (s : State) (ev : Event) (
 abbrev pub acted_at : Sizes → ℕ → Rings → State → Event → List ℕ → List ℕ → List ℕ → List ℕ → Out
 acted_at z depth r s ev h k m o = acted z depth r s (part z s.me h) (part z s.me k) o (answer_of z s ev (part z s.me h) (part z s.me k) m)
 
-pub record Enacts (z : Sizes) (depth : ℕ) (r : Rings) (s : State) (ev : Event) (h k m o : List ℕ) (a : Answer) (h' k' o' : List ℕ) : Type 0 where
+pub record Enacts (z : Sizes) (depth : ℕ) (r : Rings) (s : State) (ev : Event) (h k m o : List ℕ) (a : Reply) (h' k' o' : List ℕ) : Type 0 where
   pub acts : Acts z depth r s ev (part z s.me h) (part z s.me k) m o a (acted_at z depth r s ev h k m o).hist (acted_at z depth r s ev h k m o).cand o'
   pub hists : h' ≡ put h (share z * s.me) (acted_at z depth r s ev h k m o).hist
   pub cands : k' ≡ put k (share z * s.me) (acted_at z depth r s ev h k m o).cand

@@ -1,7 +1,7 @@
 -- An event of the cluster on records, rings and lent words: its whole answer.
 use Rattle.std.specs.Prelude.{ℕ, ◌*◌, ◌≡◌, Bool, true, false, List, [], eqb, leb, ltb, length, set}
 use Rattle.base.specs.Choice.{pick, both}
-use Rattle.base.specs.Refusals.{STATE, EVENT, ROOM}
+use Rattle.base.specs.Refusals.{code_of, STATE, EVENT, ROOM}
 use Rattle.base.specs.declared.Sizes.{Sizes}
 use Rattle.rules.specs.Tree.{Res, refused, taken}
 use Rattle.rules.specs.Cluster.{Event, O, R, D, S, Outcome, told, done, drops}
@@ -137,7 +137,7 @@ outcome_of z depth e w x = pick (eqb x.code 0)
 
 -- the answer r, with the lent words after it, is x; sizes and depth are kept
 pub record Leaves (c : Cluster) (x : After) (r : Told) (h k q o : List ℕ) : Type 0 where
-  pub code : r.code ≡ x.code
+  pub code : code_of r.answer ≡ x.code
   pub sizes : r.cluster.sizes ≡ c.sizes
   pub depth : r.cluster.depth ≡ c.depth
   pub site : site_of r.cluster h k q o ≡ x.site

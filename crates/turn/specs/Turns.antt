@@ -1,6 +1,7 @@
 -- What each function of an event's way asks and leaves.
 use Rattle.std.specs.Prelude.{ℕ, ◌*◌, ◌≤◌, ◌<◌, ◌≡◌, Bool, true, List, [], eqb, length, drop, set}
 use Rattle.base.specs.Choice.{pick, upd₂}
+use Rattle.base.specs.Refusals.{code_of}
 use Rattle.base.specs.declared.Sizes.{Sizes}
 use Rattle.rules.specs.declared.State.{State}
 use Rattle.rules.specs.Tree.{Res}
@@ -40,15 +41,15 @@ seat_of c i s r = record { sizes = c.sizes; depth = c.depth; servers = set c.ser
 -- ---- an event at one server
 
 abbrev pub after_of : Told → List ℕ → List ℕ → List ℕ → List ℕ → After
-after_of t h k q o = record { code = t.code; site = site_of t.cluster h k q o }
+after_of t h k q o = record { code = code_of t.answer; site = site_of t.cluster h k q o }
 
 -- server i answered x, where r, q and `rest` are rings, queue and channels without the message handed over:
 -- the whole answer; what the rules do; and it is well formed
 pub record Fared (c : Cluster) (w : Site) (i : ℕ) (r : Rings) (q : List ℕ) (rest : Channels) (x : Res) (t : Told) (h' k' q' o' : List ℕ) : Type 0 where
   pub leaves : Leaves c (answered c.sizes c.depth w i r q x) t h' k' q' o'
-  pub rules : (b : Bool) → answer c.sizes c.depth (cluster_of c.sizes c.depth w) i b rest x ≡ pick (eqb t.code 0)
+  pub rules : (b : Bool) → answer c.sizes c.depth (cluster_of c.sizes c.depth w) i b rest x ≡ pick (eqb (code_of t.answer) 0)
       (done i (server_at c.sizes w i) (server_at c.sizes (site_of t.cluster h' k' q' o') i) b (cluster_of c.sizes c.depth (site_of t.cluster h' k' q' o')))
-      (told t.code (cluster_of c.sizes c.depth (site_of t.cluster h' k' q' o')))
+      (told (code_of t.answer) (cluster_of c.sizes c.depth (site_of t.cluster h' k' q' o')))
   pub good : Good c.sizes c.depth (site_of t.cluster h' k' q' o')
 
 abbrev pub Local : Cluster → ℕ → Input → List ℕ → List ℕ → List ℕ → List ℕ → Told → List ℕ → List ℕ → List ℕ → List ℕ → Type 0

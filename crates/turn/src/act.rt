@@ -1,26 +1,24 @@
 // An event at one server: room is tested before a word is written.
 ghost use Rattle.std.specs.Prelude.{◌≡◌, true, ◌≤◌, ◌<◌};
-ghost use Rattle.server.specs.Whole.{Known};
+ghost use Rattle.server.specs.Whole.{Known, reply};
 ghost use Rattle.ring.specs.Queue.{good_rings};
 ghost use Rattle.turn.specs.Act.{may_send, Set, Acts, Seat, Enacts};
 
-use base::Sizes;
+use base::{Refusal, Sizes};
 use plan::Plan;
 use ring::Rings;
 use rules::State;
 use server::{Answer, Event};
 
 // Whether there is room for what a plan sends.
-fn may_send(z: Sizes, depth: u8, r: Rings, i: u8, p: Plan) -> bool
+fn may_send(z: Sizes, depth: u8, r: Rings, i: u8, p: Result<Plan, Refusal>) -> bool
     requires { (z.n ≤ 7) × ((depth ≤ 16) × ((good_rings depth r ≡ true) × (i < z.n))) }
     ensures { result ≡ may_send z depth r i p }
 {
-    if p.code != 0 {
-        return true;
+    match p {
+        Ok(p) => post::has_room(z, depth, r, i, p.empties, p.one.to, p.two.to),
+        Err(_) => true,
     }
-    let one = p.one.to;
-    let two = p.two.to;
-    post::has_room(z, depth, r, i, p.empties, one, two)
 }
 
 // An event at a server: the plan, the test of room before anything is written, and then the hands.
@@ -34,18 +32,13 @@ fn act<'a>(
     cand: &'a mut [u64],
     msg: &'a [u64],
     out: &mut [u64],
-) -> Answer
+) -> Result<Answer, Refusal>
     requires { (Set z depth r s) × (Known z s ev hist.old cand.old msg.now out.old) }
-    ensures { Acts z depth r s ev hist.old cand.old msg.now out.old result hist.new cand.new out.new }
+    ensures { Acts z depth r s ev hist.old cand.old msg.now out.old (reply s result) hist.new cand.new out.new }
 {
     let p = server::decide(z, s, hist, cand, ev, msg);
     if !may_send(z, depth, r, s.me, p) {
-        return Answer {
-            code: 12,
-            sent: 0,
-            empties: false,
-            state: s,
-        };
+        return Err(Refusal::Room);
     }
     server::carry(z, s, ev, p, hist, cand, msg, out)
 }
@@ -61,12 +54,12 @@ pub fn enact<'a>(
     cands: &'a mut [u64],
     msg: &'a [u64],
     out: &mut [u64],
-) -> Answer
+) -> Result<Answer, Refusal>
     requires { Seat z depth r s ev hists.old cands.old msg.now out.old }
-    ensures { Enacts z depth r s ev hists.old cands.old msg.now out.old result hists.new cands.new out.new }
+    ensures { Enacts z depth r s ev hists.old cands.old msg.now out.old (reply s result) hists.new cands.new out.new }
 {
     let l = 2 * (z.room.0 as usize);
-    let x = l * (s.me as usize);
+    let x = l * usize::from(s.me);
     let y = x + l;
     act(
         z,

@@ -6,13 +6,14 @@ mod act;
 ghost use Rattle.std.specs.Prelude.{◌≡◌, true, ◌+◌, ◌<◌};
 ghost use Rattle.rules.specs.Cluster.{drops, O, D};
 ghost use Rattle.ring.specs.Queue.{Ringed, Chan};
-ghost use Rattle.server.specs.Whole.{lent_len};
+ghost use Rattle.server.specs.Whole.{lent_len, reply};
+ghost use Rattle.base.specs.Refusals.{number};
 ghost use Rattle.turn.specs.Act.{Enacts};
 ghost use Rattle.site.specs.Site.{site_of, Good};
 ghost use Rattle.turn.specs.Events.{meant, alone, ruled, waits};
 ghost use Rattle.turn.specs.Turns.{Ships, Shipped, seat_of, Local, first_words, Hears, Delivered, Turned};
 
-use base::Sizes;
+use base::{Refusal, Sizes};
 use ring::Rings;
 use rules::State;
 use server::{Answer, Event};
@@ -42,11 +43,12 @@ fn send(
     requires { Ships z depth r queue.old i empties out.now n }
     ensures { Shipped z depth r queue.old i empties out.now n result queue.new }
 {
-    if empties {
-        let s = ring::empty_channels(z, depth, r, queue, i);
-        return post::post(z, depth, s, queue, i, out, n);
-    }
-    post::post(z, depth, r, queue, i, out, n)
+    let s = if empties {
+        ring::empty_channels(z, depth, r, queue, i)
+    } else {
+        r
+    };
+    post::post(z, depth, s, queue, i, out, n)
 }
 
 // The cluster with server i's record and the rings anew.
@@ -55,8 +57,7 @@ fn seat(c: Cluster, i: u8, s: State, r: Rings) -> Cluster
     ensures { result ≡ seat_of c i s r }
 {
     let mut d = c;
-    let j = i as usize;
-    d.servers[j] = s;
+    d.servers[usize::from(i)] = s;
     d.rings = r;
     d
 }
@@ -77,31 +78,30 @@ fn local<'a>(
     let z = c.sizes;
     let depth = c.depth;
     let r = c.rings;
-    let j = i as usize;
-    let s = c.servers[j];
-    let a = act::enact(z, depth, r, s, ev, hists, cands, &queue[0..0], out);
-    if a.code != 0 {
-        return Told {
-            code: a.code,
+    let s = c.servers[usize::from(i)];
+    match act::enact(z, depth, r, s, ev, hists, cands, &queue[0..0], out) {
+        Err(why) => Told {
+            answer: Err(why),
             cluster: c,
-        };
-    }
-    let t = send(z, depth, r, queue, i, a.empties, out, a.sent);
-    let d = seat(c, i, a.state, t);
-    Told {
-        code: 0,
-        cluster: d,
+        },
+        Ok(a) => {
+            let t = send(z, depth, r, queue, i, a.empties, out, a.sent);
+            Told {
+                answer: Ok(()),
+                cluster: seat(c, i, a.state, t),
+            }
+        }
     }
 }
 
 // Whether a refused delivery drops the message handed over.
-fn drops(k: u8) -> bool
-    ensures { result ≡ drops k }
+fn drops(why: Refusal) -> bool
+    ensures { result ≡ drops (number why) }
 {
-    if k < 3 {
-        return false;
-    }
-    k <= 11
+    !matches!(
+        why,
+        Refusal::State | Refusal::Event | Refusal::Room | Refusal::Trace
+    )
 }
 
 // The words of the first message from f to i.
@@ -125,9 +125,9 @@ fn hear<'a>(
     cands: &'a mut [u64],
     queue: &'a [u64],
     out: &mut [u64],
-) -> Answer
+) -> Result<Answer, Refusal>
     requires { (Ringed z depth r queue.now) × (Hears z depth r s f hists.old cands.old queue.now out.old) }
-    ensures { Enacts z depth r s (Event.Deliver f) hists.old cands.old (first_words z depth r f s.me queue.now) out.old result hists.new cands.new out.new }
+    ensures { Enacts z depth r s (Event.Deliver f) hists.old cands.old (first_words z depth r f s.me queue.now) out.old (reply s result) hists.new cands.new out.new }
 {
     let m = first(z, depth, r, queue, f, s.me);
     act::enact(z, depth, r, s, Event::Deliver(f), hists, cands, m, out)
@@ -149,29 +149,30 @@ fn deliver<'a>(
     let z = c.sizes;
     let depth = c.depth;
     let r = c.rings;
-    let j = t as usize;
-    let s = c.servers[j];
-    let a = hear(z, depth, r, s, f, hists, cands, queue, out);
-    if a.code == 0 {
-        let w = ring::pop(z, depth, r, queue, f, t);
-        let x = send(z, depth, w, queue, t, a.empties, out, a.sent);
-        let d = seat(c, t, a.state, x);
-        return Told {
-            code: 0,
-            cluster: d,
-        };
-    }
-    if drops(a.code) {
-        let mut d = c;
-        d.rings = ring::pop(z, depth, r, queue, f, t);
-        return Told {
-            code: a.code,
-            cluster: d,
-        };
-    }
-    Told {
-        code: a.code,
-        cluster: c,
+    let s = c.servers[usize::from(t)];
+    match hear(z, depth, r, s, f, hists, cands, queue, out) {
+        Ok(a) => {
+            let w = ring::pop(z, depth, r, queue, f, t);
+            let x = send(z, depth, w, queue, t, a.empties, out, a.sent);
+            Told {
+                answer: Ok(()),
+                cluster: seat(c, t, a.state, x),
+            }
+        }
+        Err(why) => {
+            if drops(why) {
+                let mut d = c;
+                d.rings = ring::pop(z, depth, r, queue, f, t);
+                return Told {
+                    answer: Err(why),
+                    cluster: d,
+                };
+            }
+            Told {
+                answer: Err(why),
+                cluster: c,
+            }
+        }
     }
 }
 
@@ -188,16 +189,10 @@ fn delivery<'a>(
     requires { Good c.sizes c.depth (site_of c hists.old cands.old queue.old out.old) }
     ensures { Turned c (D f t) hists.old cands.old queue.old out.old result hists.new cands.new queue.new out.new }
 {
-    let n = c.sizes.n as u64;
-    if n <= f {
+    let n = u64::from(c.sizes.n);
+    if n <= f || n <= t {
         return Told {
-            code: 2,
-            cluster: c,
-        };
-    }
-    if n <= t {
-        return Told {
-            code: 2,
+            answer: Err(Refusal::Event),
             cluster: c,
         };
     }
@@ -206,7 +201,7 @@ fn delivery<'a>(
     let k = ring::channel(z, f as u8, t as u8);
     if r.counts[k] == 0 {
         return Told {
-            code: 2,
+            answer: Err(Refusal::Event),
             cluster: c,
         };
     }
@@ -226,9 +221,9 @@ fn alone<'a>(
     requires { (Good c.sizes c.depth (site_of c hists.old cands.old queue.old out.old)) × (alone ev ≡ true) }
     ensures { Turned c (ruled s ev) hists.old cands.old queue.old out.old result hists.new cands.new queue.new out.new }
 {
-    if (c.sizes.n as u64) <= s {
+    if u64::from(c.sizes.n) <= s {
         return Told {
-            code: 2,
+            answer: Err(Refusal::Event),
             cluster: c,
         };
     }
@@ -248,9 +243,9 @@ fn oracle<'a>(
     requires { Good c.sizes c.depth (site_of c hists.old cands.old queue.old out.old) }
     ensures { Turned c (O s x) hists.old cands.old queue.old out.old result hists.new cands.new queue.new out.new }
 {
-    if (c.sizes.n as u64) <= x {
+    if u64::from(c.sizes.n) <= x {
         return Told {
-            code: 2,
+            answer: Err(Refusal::Event),
             cluster: c,
         };
     }
@@ -275,7 +270,7 @@ pub fn turn<'a>(
         Happening::Deliver(f, t) => delivery(c, f, t, hists, cands, queue, out),
         Happening::Submit(s, v) => alone(c, s, Event::Submit(v), hists, cands, queue, out),
         Happening::Unknown => Told {
-            code: 2,
+            answer: Err(Refusal::Event),
             cluster: c,
         },
     }

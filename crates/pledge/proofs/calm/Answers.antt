@@ -15,4 +15,8 @@ pub shape_of-out : goal.shape_of-out
 shape_of-out c = c.settle-d.auto.out ∙ c.event-s.auto.out ∙ c.settle-b.auto.out ∙ c.run-a.auto.out
 
 pub returns : goal.returns
-returns c = let a = c.args in calm-does a.c a.x a.v _ a.hists.now a.cands.now a.queue.now a.out.now c.run-a.result _ _ _ _ c.settle-b.result _ _ _ _ c.event-s.result _ _ _ _ c.settle-d.result _ _ _ _ c.name_words-words.ensures c.run-a.ensures c.settle-b.ensures c.event-s.ensures c.settle-d.ensures
+returns c =
+    let a = c.args in
+    let R = rw c.from-n.ensures at c.run-a.ensures in
+    let E = rw c.from.ensures at c.event-s.ensures in
+    calm-does a.c a.x a.v _ a.hists.now a.cands.now a.queue.now a.out.now c.run-a.result _ _ _ _ c.settle-b.result _ _ _ _ c.event-s.result _ _ _ _ c.settle-d.result _ _ _ _ c.name_words-words.ensures R c.settle-b.ensures E c.settle-d.ensures

@@ -1,14 +1,16 @@
-use Prim.Native.Nat.{◌≤◌}
-use Rattle.ring.specs.Queue.{count}
-use Rattle.post.proofs.Rooms.{due-bare, due-full}
-use borrow.Author.Rules.{rules}
+use mathlib.Core.Path.{◌≡◌}
+use Rattle.base.specs.Choice.{pick}
+use Rattle.ring.specs.Queue.{cell, count}
+use Rattle.post.proofs.Rooms.{due-is}
 use Rattle.post.proofs.due.Goals as goal
-
-pub returns-then-empties : goal.returns-then-empties
-returns-then-empties c = let a = c.args in let p = c.requires in let h1 = c.hit-a.ensures in let h2 = c.hit-b.ensures in let e1 = h1.0 in let e2 = h2.0 in let l1 = h1.1 in let l2 = h2.1 in due-bare a.z a.r a.i a.empties a.one a.two a.t _ c.if-empties.true (rw (e1, e2))
-
-pub overflow_add-result-3 : goal.overflow_add-result-3
-overflow_add-result-3 c = let a = c.args in let p = c.requires in let h1 = c.hit-a.ensures in let h2 = c.hit-b.ensures in let e1 = h1.0 in let e2 = h2.0 in let l1 = h1.1 in let l2 = h2.1 in let c2 : count a.r c.channel-c.result ≤ 16 = rw c.channel-c.ensures.0 p.1.1 in search rules
+use Rattle.post.proofs.due.Goals.{then-empties, else-empties}
 
 pub returns : goal.returns
-returns c = let a = c.args in let p = c.requires in let h1 = c.hit-a.ensures in let h2 = c.hit-b.ensures in let e1 = h1.0 in let e2 = h2.0 in let l1 = h1.1 in let l2 = h2.1 in due-full a.z a.r a.i a.empties a.one a.two a.t c.channel-c.result _ c.if-empties.false c.channel-c.ensures.0 (rw (e1, e2))
+unfolding pick
+returns c =
+    let a = c.args in
+    let w : c.if-empties.waiting ≡ pick a.empties 0 (count a.r (cell a.z.n a.i a.t)) = elim c.if-empties.branch [
+      | then-empties w ↦ rw (w.if-empties.true) w.waiting-is
+      | else-empties w ↦ rw (w.if-empties.false, ← w.channel.ensures.0) w.waiting-is
+    ] in
+    due-is a.z a.r a.i a.empties a.one a.two a.t _ _ _ w c.hit.ensures.0 c.hit-2.ensures.0

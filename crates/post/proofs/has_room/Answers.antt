@@ -1,22 +1,22 @@
-use Prim.Native.Nat.{◌<◌}
+use Prim.Native.Nat.{ℕ, ◌≤◌}
+use lib.Dec.{leb}
+use mathlib.Core.Bool.{true, false}
+use Rattle.std.proofs.lemmas.Iterator.{serves_from_Range, cases_from_all, YieldsList-from_range}
+use Rattle.ring.proofs.Parts.{all-in-range}
+use Rattle.ring.specs.Queue.{cell, count, Chan}
+use Rattle.post.specs.Room.{due, fits}
+use Rattle.post.proofs.Rooms.{due-may}
+use mathlib.Core.Path.{◌≡◌, refl}
 use native.Mathlib.Omega.{arith}
-use Rattle.ring.specs.Queue.{cell, Chan}
-use Rattle.ring.proofs.Laws.{ring-at, cell-low}
-use Rattle.post.proofs.Rooms.{not-fits, does-fit, fits_on}
 use borrow.Author.Rules.{rules}
+use borrow.Author.Tests.{tests}
 use Rattle.post.proofs.has_room.Goals as goal
 
-pub loop-t-init : goal.loop-t-init
-loop-t-init c = (search rules, λ u l. absurd (omega arith))
-
-pub due-requires : goal.due-requires
-due-requires c = let a = c.args in let p = c.requires in let v = c.loop-t.invariant in let t = c.loop-t.t in let l : c.loop-t.t < a.z.n = search rules in let h : Chan a.z a.i t = record { sender = p.1.1.1; receiver = l } in let w = p.1.0 in let y = (ring-at a.depth a.r (cell a.z.n a.i t) p.1.1.0 (cell-low a.z a.i t p.0 h).1).1 in (p.0, (h, omega arith))
-
-pub returns-then-depth-due : goal.returns-then-depth-due
-returns-then-depth-due c = let a = c.args in let p = c.requires in let v = c.loop-t.invariant in let t = c.loop-t.t in let l : c.loop-t.t < a.z.n = search rules in not-fits a.z a.depth a.r a.i a.empties a.one a.two t _ l c.due.ensures (search (rules, c.if-depth-due))
-
-pub loop-t-preserved : goal.loop-t-preserved
-loop-t-preserved c = let a = c.args in let p = c.requires in let v = c.loop-t.invariant in let t = c.loop-t.t in (search rules, fits_on a.z a.depth a.r a.i a.empties a.one a.two t _ v.1 c.due.ensures (search (rules, c.if-depth-due)))
+pub all-requires-clause-callable : goal.all-requires-clause-callable
+all-requires-clause-callable c = let a = c.args in let p = c.requires in
+    serves_from_Range (λ x q k. search (rules, tests)) (λ t low high. let m : (a.z.n ≤ 7) × (Chan a.z a.i t × (count a.r (cell a.z.n a.i t) ≤ 16)) = due-may a.z a.depth a.r a.i t p.0 p.1.0 p.1.1.0 p.1.1.1 high in search rules)
 
 pub returns : goal.returns
-returns c = let a = c.args in let p = c.requires in let v = c.loop-t.invariant in let t = c.loop-t.t in does-fit a.z a.depth a.r a.i a.empties a.one a.two t (search rules) v.1
+unfolding fits
+returns c = let a = c.args in let f = (λ (t : ℕ). leb (due a.z a.r a.i a.empties a.one a.two t) a.depth) in
+    all-in-range a.z.n f c.all.result (cases_from_all _ _ _ (λ t. f t ≡ true) (λ t. f t ≡ false) c.all.ensures.ran (YieldsList-from_range 0 a.z.n a.z.n refl (omega arith)) (λ t q k. search (rules, tests)) (λ t q k. search (rules, tests)))

@@ -1,15 +1,13 @@
-use mathlib.Core.Path.{sym}
-use native.Mathlib.Omega.{arith}
+use lib.ListN.{get_or}
+use mathlib.Core.Bool.{false}
+use mathlib.Core.Path.{ap, ◌∙◌}
 use Rattle.rules.specs.Words.{has}
-use Rattle.post.proofs.Rooms.{hit-self, hit-in, hit-out}
-use borrow.Author.Rules.{rules}
+use Rattle.post.proofs.Rooms.{hit-self, hit-other}
 use Rattle.post.proofs.hit.Goals as goal
-
-pub returns-then-t-i : goal.returns-then-t-i
-returns-then-t-i c = let a = c.args in (sym (hit-self a.i (has a.q) a.t (search rules)), omega arith)
-
-pub returns-then-q-j : goal.returns-then-q-j
-returns-then-q-j c = let a = c.args in (sym (hit-in a.i (has a.q) a.t (search rules) c.if-q-j.true), omega arith)
+use Rattle.post.proofs.hit.Goals.{then-t-i, else-t-i}
 
 pub returns : goal.returns
-returns c = let a = c.args in (sym (hit-out a.i (has a.q) a.t c.if-q-j.false), omega arith)
+returns c = let a = c.args in elim c.if-t-i.branch [
+  | then-t-i w ↦ hit-other a.i (has a.q) a.t _ _ w.if-t-i.true (w.from-is ∙ ap (λ k. get_or a.q k false) w.from.ensures) c.from-2.ensures
+  | else-t-i w ↦ hit-self a.i (has a.q) a.t _ _ w.if-t-i.false w.from-is c.from-2.ensures
+]

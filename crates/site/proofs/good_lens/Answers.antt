@@ -1,30 +1,36 @@
 use Prim.Native.Nat.{◌+◌, ◌*◌}
-use native.Mathlib.Omega.{arith}
-use Rattle.ring.proofs.Laws.{times}
-use Rattle.site.proofs.Goods.{lens-h, lens-k, lens-q, lens-o}
-use borrow.Author.Rules.{rules}
+use mathlib.Core.Path.{◌≡◌, refl, ◌∙◌}
+use lib.Dec.{eqb}
+use borrow.Author.Tests.{eq-eqb, ne_eqb}
+use Rattle.base.specs.Choice.{both}
+use Rattle.site.proofs.Goods.{and-then, and-else, lens-are}
 use Rattle.site.proofs.good_lens.Goals as goal
-
-pub overflow_mul-l-2 : goal.overflow_mul-l-2
-overflow_mul-l-2 c = let a = c.args in let p = c.requires in let u = times (2 * a.z.room.0) a.z.n 128 7 (omega arith) p.0 in search rules
-
-pub returns-then-h-l : goal.returns-then-h-l
-returns-then-h-l c = let a = c.args in lens-h a.z a.depth a.h a.k a.q a.o c.if-h-l.true
-
-pub returns-then-k-l : goal.returns-then-k-l
-returns-then-k-l c = let a = c.args in lens-k a.z a.depth a.h a.k a.q a.o c.if-h-l.false c.if-k-l.true
-
-pub overflow_mul-n : goal.overflow_mul-n
-overflow_mul-n c = let a = c.args in let p = c.requires in let u = times a.z.n a.z.n 7 7 p.0 p.0 in search rules
-
-pub overflow_mul-depth : goal.overflow_mul-depth
-overflow_mul-depth c = let a = c.args in let p = c.requires in let u = times a.z.n a.z.n 7 7 p.0 p.0 in let v = times a.depth (a.z.n * a.z.n) 16 49 p.1.1 u in search rules
-
-pub overflow_mul-l-4 : goal.overflow_mul-l-4
-overflow_mul-l-4 c = let a = c.args in let p = c.requires in let u = times a.z.n a.z.n 7 7 p.0 p.0 in let v = times a.depth (a.z.n * a.z.n) 16 49 p.1.1 u in let w = times (4 + 2 * a.z.room.0) (a.depth * (a.z.n * a.z.n)) 132 784 (omega arith) v in search rules
+use Rattle.site.proofs.good_lens.Goals.{then-h-l, else-h-l, then-k-l, else-k-l}
 
 pub returns-then-q-l : goal.returns-then-q-l
-returns-then-q-l c = let a = c.args in lens-q a.z a.depth a.h a.k a.q a.o c.if-h-l.false c.if-k-l.false c.if-q-l.true
+returns-then-q-l c =
+    let a = c.args in
+    let e = c.from-n.ensures in
+    let v : c.if-h-l.value ≡ both (eqb a.h (2 * a.z.room.0 * a.z.n)) (eqb a.k (2 * a.z.room.0 * a.z.n)) = elim c.if-h-l.branch [
+      | then-h-l w ↦ and-then _ _ _ _ refl (eq-eqb _ _ (rw e at w.if-h-l.true)) (rw e at w.value-is)
+      | else-h-l w ↦ and-else _ _ _ (rw e at w.value-is) (w.value-is ∙ ne_eqb _ _ w.if-h-l.false)
+    ] in
+    let u : c.if-k-l.value ≡ both c.if-h-l.value (eqb a.q ((4 + 2 * a.z.room.0) * (a.depth * (a.z.n * a.z.n)))) = elim c.if-k-l.branch [
+      | then-k-l w ↦ and-then _ _ _ _ refl w.if-k-l.true (rw (e, w.from.ensures) at w.value-is)
+      | else-k-l w ↦ w.value-is ∙ and-else _ _ _ refl w.if-k-l.false
+    ] in
+    lens-are a.z a.depth a.h a.k a.q a.o _ _ _ v u (and-then _ _ _ _ refl c.if-q-l.true refl)
 
-pub returns : goal.returns
-returns c = let a = c.args in lens-o a.z a.depth a.h a.k a.q a.o c.if-h-l.false c.if-k-l.false c.if-q-l.false
+pub returns-else-q-l : goal.returns-else-q-l
+returns-else-q-l c =
+    let a = c.args in
+    let e = c.from-n.ensures in
+    let v : c.if-h-l.value ≡ both (eqb a.h (2 * a.z.room.0 * a.z.n)) (eqb a.k (2 * a.z.room.0 * a.z.n)) = elim c.if-h-l.branch [
+      | then-h-l w ↦ and-then _ _ _ _ refl (eq-eqb _ _ (rw e at w.if-h-l.true)) (rw e at w.value-is)
+      | else-h-l w ↦ and-else _ _ _ (rw e at w.value-is) (w.value-is ∙ ne_eqb _ _ w.if-h-l.false)
+    ] in
+    let u : c.if-k-l.value ≡ both c.if-h-l.value (eqb a.q ((4 + 2 * a.z.room.0) * (a.depth * (a.z.n * a.z.n)))) = elim c.if-k-l.branch [
+      | then-k-l w ↦ and-then _ _ _ _ refl w.if-k-l.true (rw (e, w.from.ensures) at w.value-is)
+      | else-k-l w ↦ w.value-is ∙ and-else _ _ _ refl w.if-k-l.false
+    ] in
+    lens-are a.z a.depth a.h a.k a.q a.o _ _ _ v u (and-else _ _ _ refl c.if-q-l.false)

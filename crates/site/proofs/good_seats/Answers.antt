@@ -1,21 +1,13 @@
-use borrow.Author.Rules.{rules}
-use Prim.Native.Nat.{◌<◌}
 use native.Mathlib.Omega.{arith}
-use Rattle.base.proofs.Choice.{not_is, not-no}
-use Rattle.site.proofs.Goods.{seats-not, seats-on, seats-all}
+use mathlib.Core.Path.{◌≡◌, refl}
+use mathlib.Core.Bool.{true, false}
+use Rattle.std.proofs.lemmas.Iterator.{cases_from_all, YieldsList-from_range}
+use Rattle.ring.proofs.Parts.{all-in-range}
+use Rattle.site.specs.Site.{site_of, good_seat}
+use borrow.Author.Rules.{rules}
+use borrow.Author.Tests.{tests}
 use Rattle.site.proofs.good_seats.Goals as goal
 
-pub loop-i-init : goal.loop-i-init
-loop-i-init c = (search rules, λ q o j l. absurd (omega arith))
-
-pub good_seat-requires : goal.good_seat-requires
-good_seat-requires c = let p = c.requires in let l : c.loop-i.i < c.args.c.sizes.n = search rules in (p.0, (l, p.1))
-
-pub returns-then-not-good_seat : goal.returns-then-not-good_seat
-returns-then-not-good_seat c = let a = c.args in let l : c.loop-i.i < c.args.c.sizes.n = search rules in seats-not a.c a.hists.now a.cands.now c.loop-i.i c.good_seat.result l c.good_seat.ensures (not_is _ c.if-not-good_seat.true-raw)
-
-pub loop-i-preserved : goal.loop-i-preserved
-loop-i-preserved c = let a = c.args in (search rules, seats-on a.c a.hists.now a.cands.now c.loop-i.i c.good_seat.result c.loop-i.invariant.1 c.good_seat.ensures (not-no _ c.if-not-good_seat.false-raw))
-
 pub returns : goal.returns
-returns c = let a = c.args in seats-all a.c a.hists.now a.cands.now c.loop-i.i c.loop-i.invariant.1 (search rules)
+returns c = λ q o. let a = c.args in let f = good_seat a.c.sizes (site_of a.c a.hists.now a.cands.now q o) in
+    all-in-range a.c.sizes.n f c.all.result (cases_from_all _ _ _ (λ i. f i ≡ true) (λ i. f i ≡ false) c.all.ensures.ran (YieldsList-from_range 0 a.c.sizes.n a.c.sizes.n refl (omega arith)) (λ i q' k. search (rules, tests)) (λ i q' k. search (rules, tests)))

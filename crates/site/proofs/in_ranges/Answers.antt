@@ -1,12 +1,14 @@
-use Rattle.base.proofs.Choice.{not_is, not-no}
-use Rattle.site.proofs.Goods.{ranges-not, ranges-low, ranges-are}
+use Prim.Native.Nat.{◌≤◌}
+use Rattle.std.specs.Prelude.{◌↔◌, IsTrue}
+use borrow.Author.Rules.{rules}
+use Rattle.site.proofs.Goods.{and-then, and-else, depth-tells}
 use Rattle.site.proofs.in_ranges.Goals as goal
 
-pub returns-then-not-good_sizes : goal.returns-then-not-good_sizes
-returns-then-not-good_sizes c = let a = c.args in ranges-not a.z a.depth _ c.good_sizes.ensures (not_is _ c.if-not-good_sizes.true-raw)
+pub returns-then-good_sizes : goal.returns-then-good_sizes
+returns-then-good_sizes c =
+    let d = c.args.depth in
+    let h : IsTrue c.contains.result ↔ ((2 ≤ d) × (d ≤ 16)) = search rules in
+    and-then _ _ _ _ c.good_sizes.ensures c.if-good_sizes.true (depth-tells d _ h)
 
-pub returns-then-depth-lt2 : goal.returns-then-depth-lt2
-returns-then-depth-lt2 c = let a = c.args in ranges-low a.z a.depth _ c.good_sizes.ensures c.if-depth-lt2.true
-
-pub returns : goal.returns
-returns c = let a = c.args in ranges-are a.z a.depth _ c.good_sizes.ensures (not-no _ c.if-not-good_sizes.false-raw) c.if-depth-lt2.false
+pub returns-else-good_sizes : goal.returns-else-good_sizes
+returns-else-good_sizes c = and-else _ _ _ c.good_sizes.ensures c.if-good_sizes.false

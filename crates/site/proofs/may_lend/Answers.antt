@@ -1,12 +1,14 @@
-use Rattle.base.proofs.Choice.{not_is, not-no}
-use Rattle.site.proofs.Goods.{ranges-room, fit-not, fit_is}
+use Rattle.site.specs.Site.{fitting}
+use Rattle.site.proofs.Goods.{and-then, and-else, ranges-room}
 use Rattle.site.proofs.may_lend.Goals as goal
 
-pub returns-then-not-in_ranges : goal.returns-then-not-in_ranges
-returns-then-not-in_ranges c = let a = c.args in fit-not a.z a.depth a.h a.k a.q a.o c.in_ranges.result c.in_ranges.ensures (not_is _ c.if-not-in_ranges.true-raw)
+pub returns-then-in_ranges : goal.returns-then-in_ranges
+unfolding fitting
+returns-then-in_ranges c = and-then _ _ _ _ c.in_ranges.ensures c.if-in_ranges.true c.good_lens.ensures
+
+pub returns-else-in_ranges : goal.returns-else-in_ranges
+unfolding fitting
+returns-else-in_ranges c = and-else _ _ _ c.in_ranges.ensures c.if-in_ranges.false
 
 pub good_lens-requires : goal.good_lens-requires
-good_lens-requires c = let a = c.args in ranges-room a.z a.depth c.in_ranges.result c.in_ranges.ensures (not-no _ c.if-not-in_ranges.false-raw)
-
-pub returns : goal.returns
-returns c = let a = c.args in fit_is a.z a.depth a.h a.k a.q a.o c.in_ranges.result c.good_lens.result c.in_ranges.ensures (not-no _ c.if-not-in_ranges.false-raw) c.good_lens.ensures
+good_lens-requires c = ranges-room _ _ _ c.in_ranges.ensures c.if-in_ranges.true

@@ -1,13 +1,9 @@
-use Rattle.rules.specs.Cluster.{drops}
-use Rattle.base.specs.Choice.{both}
-use Rattle.base.proofs.Choice.{decide}
 use borrow.Author.Rules.{rules}
+use mathlib.Core.Path.{ap, sym, ◌∙◌}
+use mathlib.Core.Bool.{not}
+use Rattle.turn.proofs.Laws.{kept-back, dropped}
 use Rattle.turn.proofs.drops.Goals as goal
-
-pub returns-then-k-lt3 : goal.returns-then-k-lt3
-unfolding drops both
-returns-then-k-lt3 c = search (decide, rules)
+use Rattle.turn.proofs.drops.Goals.{in-State, in_default}
 
 pub returns : goal.returns
-unfolding drops both
-returns c = search (decide, rules)
+returns c = elim c.match-matches.branch [ in-State w ↦ ap not w.matches-is ∙ sym (kept-back c.args.why w.in-State.is) | in_default w ↦ ap not w.matches-is ∙ sym (search (dropped, rules, w.in_default)) ]

@@ -1,9 +1,10 @@
-use Rattle.turn.proofs.Laws.{may-not, may-fits}
-use borrow.Author.Rules.{rules}
+use Rattle.turn.specs.Act.{may_send}
 use Rattle.turn.proofs.act.may_send.Goals as goal
 
-pub returns-then-p-ne0 : goal.returns-then-p-ne0
-returns-then-p-ne0 c = may-not _ _ _ _ _ (search (rules, c.if-p-ne0))
+pub returns-in-Ok : goal.returns-in-Ok
+unfolding may_send
+returns-in-Ok c = rw c.in-Ok.is c.has_room.ensures
 
-pub returns : goal.returns
-returns c = let a = c.args in may-fits _ _ _ _ _ _ (search (rules, c.if-p-ne0)) c.has_room.ensures
+pub returns-in-Err : goal.returns-in-Err
+unfolding may_send
+returns-in-Err c = rw c.in-Err.is
