@@ -1,7 +1,7 @@
 -- The records of a history's places, written one after the other.
 use Prim.Native.Nat.{ℕ, zero, suc, ◌+◌, ◌-◌, ◌*◌, ◌/◌, ◌%◌, ◌≤◌, ◌<◌}
-use mathlib.Core.Path.{◌≡◌, refl, sym, ap, ◌∙◌, subst}
-use mathlib.Core.Logic.{◌≢◌, ◌⊎◌, inl, inr, ⊎_elim}
+use mathlib.Core.Path.{◌≡◌, refl, sym, ap, ◌∙◌}
+use mathlib.Core.Logic.{◌≢◌, ◌⊎◌, inl, inr}
 use mathlib.Core.Bool.{Bool, true, false}
 use mathlib.Core.List.{List, [], ◌∷◌, ◌++◌, map, append_assoc, append-nil}
 use native.Mathlib.Omega.{arith}
@@ -54,9 +54,6 @@ module _ (b : Bool) (who : ℕ) (h : List ℕ) (from to : ℕ) (q : List ℕ) (a
   notes-start = let e : from - from ≡ 0 = omega arith in
       record { wrote = rw e (wrote_none q at); past = omega arith; far = inr refl; most = omega arith; same = refl }
 
-  pub notes-room : (q' : List ℕ) (end j : ℕ) → Noted b who h from to q at q' end j → j < to → to ≤ 64 → at + 96 * 64 ≤ length q → end + 96 ≤ length q'
-  notes-room q' end j N l m r = omega (arith, N.past, N.most, N.same)
-
   pub notes-on : (q' q'' : List ℕ) (end r j : ℕ) (x : Rec) → Noted b who h from to q at q' end j → j < to → at + 96 * 64 ≤ length q → x ≡ marked b who (txn_at (drop (2 * j) h)) → Wrote q' end (bytes_of x) r q'' → r ≤ end + 96 → length q'' ≡ length q'
       → Noted b who h from to q at q'' r (j + 1)
   notes-on q' q'' end r j x N l a e w m s =
@@ -73,17 +70,7 @@ module _ (b : Bool) (who : ℕ) (h : List ℕ) (from to : ℕ) (q : List ℕ) (a
         same = s ∙ N.same;
       }
 
-  pub notes-end : (q' : List ℕ) (end j : ℕ) → Noted b who h from to q at q' end j → to ≤ j → to ≤ 64 → (Wrote q at (text (notes b who h from (to - from))) end q') × (end ≤ at + 96 * 64)
-  notes-end q' end j N l m =
-      let e : j - from ≡ to - from = ⊎_elim (λ (p : j ≤ to). omega arith) (λ (p : j ≡ from). omega arith) N.far in
-      (subst (λ (k : ℕ). Wrote q at (text (notes b who h from k)) end q') e N.wrote, omega (arith, N.most, e))
-
 -- ---- an event taken
-
-pub pick_less : (b : Bool) (x n : ℕ) → n ≡ pick b x 0 → n ≤ x
-unfolding pick
-pick_less true x n e = omega arith
-pick_less false x n e = omega arith
 
 pub enter-was : (s t who p : ℕ) (q : List ℕ) → s ≡ 8 → Wrote q 0 (text (entered s t who p)) 0 q
 unfolding entered both pick text
@@ -97,19 +84,19 @@ pub enter-does : (s t who p r : ℕ) (q q' : List ℕ) → s ≢ 8 → t ≡ 8 �
 unfolding entered both pick
 enter-does s t who p r q q' d e w = rw (ne_eqb s 8 d, eq-eqb t 8 e, text-one (E who p)) w
 
-pub done-wrote : (b : Bool) (s t : State) (h : List ℕ) (q q1 q2 q3 : List ℕ) (e f r to : ℕ) → to ≡ pick b t.len.0 0 → e ≤ length q1
-    → Wrote q 0 (text (entered s.stage t.stage t.me t.p.0)) e q1
-    → Wrote q1 e (text (notes true t.me h s.len.0 (to - s.len.0))) f q2
-    → Wrote q2 f (text (notes false t.me h s.d.0 (t.d.0 - s.d.0))) r q3
+pub done-wrote : (b : Bool) (s t : State) (h : List ℕ) (q q1 q2 q3 : List ℕ) (e f r to who : ℕ) → to ≡ pick b t.len.0 0 → who ≡ t.me → e ≤ length q1
+    → Wrote q 0 (text (entered s.stage t.stage who t.p.0)) e q1
+    → Wrote q1 e (text (notes true who h s.len.0 (to - s.len.0))) f q2
+    → Wrote q2 f (text (notes false who h s.d.0 (t.d.0 - s.d.0))) r q3
     → Wrote q 0 (text (done_by b s t h)) r q3
 unfolding done_by
-done-wrote b s t h q q1 q2 q3 e f r to y l x u v =
-    let n = notes true t.me h s.len.0 (to - s.len.0) in
-    let m = notes false t.me h s.d.0 (t.d.0 - s.d.0) in
-    let k = entered s.stage t.stage t.me t.p.0 in
+done-wrote b s t h q q1 q2 q3 e f r to who y i l x u v =
+    let n = notes true who h s.len.0 (to - s.len.0) in
+    let m = notes false who h s.d.0 (t.d.0 - s.d.0) in
+    let k = entered s.stage t.stage who t.p.0 in
     let w = wrote_then q1 q2 q3 (text n) (text m) e f r l u v in
     let z = wrote_then q q1 q3 (text k) (text n ++ text m) 0 e r (omega arith) x w in
-    rw (← y, text-append k (n ++ m), text-append n m) z
+    rw (← y, ← i, text-append k (n ++ m), text-append n m) z
 
 -- ---- and in the words of the rules
 

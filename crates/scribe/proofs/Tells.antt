@@ -9,7 +9,7 @@ use lib.Dec.{eqb, ltb}
 use lib.ListN.{length, take, drop}
 use borrow.Author.Tests.{eq-eqb, ne_eqb, eqb-true, ltb-true, lt-ltb}
 use Rattle.base.specs.Choice.{pick, both, all_below}
-use Rattle.base.specs.Refusals.{STATE}
+use Rattle.base.specs.Refusals.{code_of, STATE}
 use Rattle.base.specs.Record.{E, B, «V», X, entry}
 use Rattle.base.specs.declared.Txn.{Txn}
 use Rattle.base.specs.declared.Sizes.{Sizes}
@@ -97,27 +97,27 @@ module _ (c : Cluster) (line : ℕ) (e : Event) (h k q o b : List ℕ) (t : Told
     tells : Wrote b 0 (said z c.depth line o e c h k q) r b' → Tells c line e h k q o b (record { end = r; cluster = t.cluster }) h' k' q' o' b'
     tells v = record { wrote = v; sizes = H.leaves.sizes; depth = H.leaves.depth; site = H.leaves.site; rules = rules; good = H.good }
 
-    pub tell-refused : t.code ≢ 0 → Wrote b 0 (bytes_of (X line t.code)) r b' → Tells c line e h k q o b (record { end = r; cluster = t.cluster }) h' k' q' o' b'
+    pub tell-refused : code_of t.answer ≢ 0 → Wrote b 0 (bytes_of (X line (code_of t.answer))) r b' → Tells c line e h k q o b (record { end = r; cluster = t.cluster }) h' k' q' o' b'
     unfolding said pick outcome_of records whole_event
     tell-refused n v = case (good_site z c.depth w)
         (λ (g : good_site z c.depth w ≡ true).
-        let y : event z c.depth (cluster_of z c.depth w) e ≡ told t.code (cluster_of z c.depth w') = H.rules g ∙ rw (ne_eqb t.code 0 n) in
-        tells (rw (g, y, text-one (X line t.code)) v))
+        let y : event z c.depth (cluster_of z c.depth w) e ≡ told (code_of t.answer) (cluster_of z c.depth w') = H.rules g ∙ rw (ne_eqb (code_of t.answer) 0 n) in
+        tells (rw (g, y, text-one (X line (code_of t.answer))) v))
         (λ (g : good_site z c.depth w ≡ false).
-        let y : t.code ≡ STATE = H.leaves.code ∙ rw g in
+        let y : code_of t.answer ≡ STATE = H.leaves.code ∙ rw g in
         tells (rw (g, text-one (X line STATE)) (subst (λ (n : ℕ). Wrote b 0 (bytes_of (X line n)) r b') y v)))
 
   -- ---- taken
 
-  module _ (n : t.code ≡ 0) where
+  module _ (n : code_of t.answer ≡ 0) where
     well : good_site z c.depth w ≡ true
     unfolding whole_event pick
     well = case (good_site z c.depth w) (λ (g : good_site z c.depth w ≡ true). g)
-        (λ (g : good_site z c.depth w ≡ false). let y : t.code ≡ STATE = H.leaves.code ∙ rw g in absurd (omega arith))
+        (λ (g : good_site z c.depth w ≡ false). let y : code_of t.answer ≡ STATE = H.leaves.code ∙ rw g in absurd (omega arith))
 
     is-done : event z c.depth (cluster_of z c.depth w) e ≡ done (actor e) (server_at z w (actor e)) (server_at z w' (actor e)) (asks e) (cluster_of z c.depth w')
     unfolding outcome_of pick
-    is-done = H.rules well ∙ rw (eq-eqb t.code 0 n)
+    is-done = H.rules well ∙ rw (eq-eqb (code_of t.answer) 0 n)
 
     pub low : actor e < z.n
     low = done-low z c.depth (cluster_of z c.depth w) (actor e) _ _ _ _ e is-done

@@ -1,5 +1,5 @@
 -- What the program writes: the records that a line of the script leaves, as text.
-use Rattle.std.specs.Prelude.{ℕ, zero, suc, ◌+◌, ◌-◌, ◌*◌, ◌≤◌, ◌<◌, ◌≡◌, Bool, true, false, not, List, [], ◌∷◌, ◌++◌, map, eqb, length, drop}
+use Rattle.std.specs.Prelude.{ℕ, zero, suc, ◌+◌, ◌-◌, ◌*◌, ◌≤◌, ◌<◌, ◌≡◌, Bool, true, false, not, List, [], ◌∷◌, ◌++◌, Option, Some, None, map, eqb, length, drop}
 use Rattle.base.specs.Choice.{pick, both}
 use Rattle.base.specs.Refusals.{STATE}
 use Rattle.base.specs.Record.{Rec, E, B, «V», X, entry}
@@ -14,7 +14,7 @@ use Rattle.site.specs.Parts.{share}
 use Rattle.site.specs.Site.{site_of, record_at, cluster_of, good_site}
 use Rattle.turn.specs.Events.{whole_event}
 use Rattle.script.specs.declared.Command.{Command}
-use Rattle.script.specs.declared.Command.TheVariants.{Begin, Oracle, Restart, Deliver, Submit, Bad}
+use Rattle.script.specs.declared.Command.TheVariants.{Begin, Oracle, Restart, Deliver, Submit}
 use Rattle.script.specs.Line.{line_of}
 use Rattle.script.specs.Text.{header, bytes_of, Wrote}
 use Rattle.scribe.specs.declared.Said.{Said}
@@ -27,26 +27,26 @@ text (r ∷ rs) = bytes_of r ++ text rs
 -- ---- the script
 
 -- the event that a line after the first means; a bad line, a second N included, is one at no server
-unfoldable pub event_for : Sizes → Command → Event
-event_for z (Begin n) = R z.n
-event_for z (Oracle s x) = O s x
-event_for z (Restart s) = R s
-event_for z (Deliver f t) = D f t
-event_for z (Submit s v) = S s v
-event_for z Bad = R z.n
+unfoldable pub event_for : Sizes → Option Command → Event
+event_for z (Some (Begin n)) = R z.n
+event_for z (Some (Oracle s x)) = O s x
+event_for z (Some (Restart s)) = R s
+event_for z (Some (Deliver f t)) = D f t
+event_for z (Some (Submit s v)) = S s v
+event_for z None = R z.n
 
 -- room for 16 transactions, channels of four messages
 abbrev pub limits : ℕ → Sizes
 limits n = record { n = n; room = record { 0 = 16 } }
 
 -- the whole output of a script, given by its first line's command and the lines after it
-unfoldable pub output_after : Command → List (List ℕ) → List ℕ
-output_after (Begin n) ls = header n ++ text (trace (limits n) 4 start 2 (map (λ l. event_for (limits n) (line_of l)) ls))
-output_after (Oracle s x) ls = text (X 1 1 ∷ [])
-output_after (Restart s) ls = text (X 1 1 ∷ [])
-output_after (Deliver f t) ls = text (X 1 1 ∷ [])
-output_after (Submit s v) ls = text (X 1 1 ∷ [])
-output_after Bad ls = text (X 1 1 ∷ [])
+unfoldable pub output_after : Option Command → List (List ℕ) → List ℕ
+output_after (Some (Begin n)) ls = header n ++ text (trace (limits n) 4 start 2 (map (λ l. event_for (limits n) (line_of l)) ls))
+output_after (Some (Oracle s x)) ls = text (X 1 1 ∷ [])
+output_after (Some (Restart s)) ls = text (X 1 1 ∷ [])
+output_after (Some (Deliver f t)) ls = text (X 1 1 ∷ [])
+output_after (Some (Submit s v)) ls = text (X 1 1 ∷ [])
+output_after None ls = text (X 1 1 ∷ [])
 
 unfoldable pub output_of : List (List ℕ) → List ℕ
 output_of [] = text (X 1 1 ∷ [])

@@ -10,33 +10,32 @@ use Rattle.base.specs.Choice.{pick, both}
 use Rattle.base.proofs.Choice.{case, both_true, clash}
 use Rattle.script.specs.Line.{shift, next, after, misled, number}
 use Rattle.script.specs.Text.{digits_in, digits}
-use Rattle.script.specs.declared.Value.{Value}
-use Rattle.script.specs.declared.Value.TheVariants.{Is, Refused}
+use Rattle.std.specs.Prelude.{Option, Some, None}
 use Rattle.script.proofs.Lines.{after-refused}
 use Rattle.script.proofs.Texts.{step-one, step-more, pow, digits-one, digits_more}
 
-after-append : (a b : List ℕ) (r : Value) → after r (a ++ b) ≡ after (after r a) b
+after-append : (a b : List ℕ) (r : Option ℕ) → after r (a ++ b) ≡ after (after r a) b
 unfolding after
 after-append [] b r = refl
 after-append (x ∷ a) b r = after-append a b (next r x)
 
-shift-digit : (v d : ℕ) → d < 10 → 10 * v + d < 18446744073709551616 → shift v (48 + d) ≡ Is (10 * v + d)
+shift-digit : (v d : ℕ) → d < 10 → 10 * v + d < 18446744073709551616 → shift v (48 + d) ≡ Some (10 * v + d)
 unfolding shift both pick
 shift-digit v d h k =
     let e : 48 + d - 48 ≡ d = omega arith in
     rw (le-leb 48 (48 + d) (omega arith), le-leb (48 + d) 57 (omega arith), e, le-leb (10 * v + d) 18446744073709551615 (omega arith))
 
-snoc-digit : (v : ℕ) (l : List ℕ) → v < 18446744073709551616 → after (Is 0) l ≡ Is (v / 10) → after (Is 0) (l ++ ((48 + v % 10) ∷ [])) ≡ Is v
+snoc-digit : (v : ℕ) (l : List ℕ) → v < 18446744073709551616 → after (Some 0) l ≡ Some (v / 10) → after (Some 0) (l ++ ((48 + v % 10) ∷ [])) ≡ Some v
 unfolding after next
 snoc-digit v l h e =
     let m : 10 * (v / 10) + v % 10 ≡ v = omega arith in
-    after-append l ((48 + v % 10) ∷ []) (Is 0) ∙ (ap (λ (r : Value). after r ((48 + v % 10) ∷ [])) e ∙ (shift-digit (v / 10) (v % 10) (omega arith) (omega arith) ∙ ap (λ (k : ℕ). Is k) m))
+    after-append l ((48 + v % 10) ∷ []) (Some 0) ∙ (ap (λ (r : Option ℕ). after r ((48 + v % 10) ∷ [])) e ∙ (shift-digit (v / 10) (v % 10) (omega arith) (omega arith) ∙ ap (λ (k : ℕ). Some k) m))
 
-one-digit : (v : ℕ) → v < 10 → after (Is 0) ((48 + v) ∷ []) ≡ Is v
+one-digit : (v : ℕ) → v < 10 → after (Some 0) ((48 + v) ∷ []) ≡ Some v
 unfolding after next
-one-digit v h = let e : 10 * 0 + v ≡ v = omega arith in shift-digit 0 v h (omega arith) ∙ ap (λ (k : ℕ). Is k) e
+one-digit v h = let e : 10 * 0 + v ≡ v = omega arith in shift-digit 0 v h (omega arith) ∙ ap (λ (k : ℕ). Some k) e
 
-value-back : (k v : ℕ) → v < 10 * pow k → v < 18446744073709551616 → after (Is 0) (digits_in (suc k) v) ≡ Is v
+value-back : (k v : ℕ) → v < 10 * pow k → v < 18446744073709551616 → after (Some 0) (digits_in (suc k) v) ≡ Some v
 value-back zero v h b = let l : v < 10 = omega arith in rw (step-one 0 v l) (one-digit v l)
 value-back (suc k) v h b = case (ltb v 10)
     (λ q. let l : v < 10 = ltb-true v 10 q in rw (step-one (suc k) v l) (one-digit v l))
@@ -50,7 +49,7 @@ leads (b ∷ l) = leb 49 b
 
 leads-append : (a b : List ℕ) → leads a ≡ true → leads (a ++ b) ≡ true
 unfolding leads
-leads-append [] b e = let z : ◌≡◌ {A = ℕ} 0 1 = cc in absurd (omega arith)
+leads-append [] b e = cc
 leads-append (x ∷ a) b e = e
 
 leads-digits : (k v : ℕ) → 1 ≤ v → v < 10 * pow k → leads (digits_in (suc k) v) ≡ true
@@ -63,7 +62,7 @@ leads-digits (suc k) v g h = case (ltb v 10)
 
 led : (l : List ℕ) → leads l ≡ true → misled l ≡ false
 unfolding leads misled
-led [] e = let z : ◌≡◌ {A = ℕ} 0 1 = cc in absurd (omega arith)
+led [] e = cc
 led (b ∷ []) e = refl
 led (b ∷ c ∷ l) e = ne_eqb b 48 (λ q. omega (arith, leb-true 49 b e))
 
@@ -78,7 +77,7 @@ well-led v h = case (ltb v 10)
     (λ q. let l : 10 ≤ v = ltb-false v 10 q in let b : v < 100000000000000000000 = omega arith in led (digits_in 20 v) (leads-digits 19 v (omega arith) b))
 
 -- every number of 64 bits
-pub number-back : (v : ℕ) → v < 18446744073709551616 → number (digits v) ≡ Is v
+pub number-back : (v : ℕ) → v < 18446744073709551616 → number (digits v) ≡ Some v
 unfolding number pick digits
 number-back v h = let b : v < 100000000000000000000 = omega arith in rw (well-led v h) (value-back 19 v b h)
 
@@ -88,15 +87,15 @@ record Accepted (v b : ℕ) (l : List ℕ) (w : ℕ) : Type 0 where
   low : 48 ≤ b
   high : b ≤ 57
   fits : 10 * v + (b - 48) ≤ 18446744073709551615
-  rest : after (Is (10 * v + (b - 48))) l ≡ Is w
+  rest : after (Some (10 * v + (b - 48))) l ≡ Some w
 
-accepted : (v b : ℕ) (l : List ℕ) (w : ℕ) → after (shift v b) l ≡ Is w → Accepted v b l w
+accepted : (v b : ℕ) (l : List ℕ) (w : ℕ) → after (shift v b) l ≡ Some w → Accepted v b l w
 unfolding shift pick
 accepted v b l w e = case (both (both (leb 48 b) (leb b 57)) (leb (10 * v + (b - 48)) 18446744073709551615))
     (λ q. let o = both_true (both (leb 48 b) (leb b 57)) (leb (10 * v + (b - 48)) 18446744073709551615) q in
     let i = both_true (leb 48 b) (leb b 57) o.0 in
     record { low = leb-true 48 b i.0; high = leb-true b 57 i.1; fits = leb-true (10 * v + (b - 48)) 18446744073709551615 o.1; rest = rw q at e })
-    (λ q. let f : after Refused l ≡ Is w = rw q at e in let z : ◌≡◌ {A = ℕ} 0 1 = cc (after-refused l) in absurd (omega arith))
+    (λ q. let f : after None l ≡ Some w = rw q at e in cc (after-refused l))
 
 -- a digit more
 grown : (v b : ℕ) → 1 ≤ v → 48 ≤ b → b ≤ 57 → 10 * v + (b - 48) ≤ 18446744073709551615 → digits (10 * v + (b - 48)) ≡ digits v ++ (b ∷ [])
@@ -106,7 +105,7 @@ grown v b g l h m =
     let r : 48 + w % 10 ≡ b = omega arith in
     digits_more w (omega arith) (omega arith) ∙ (λ i. digits (d i) ++ (r i ∷ []))
 
-kept : (l : List ℕ) (v w : ℕ) → 1 ≤ v → after (Is v) l ≡ Is w → digits w ≡ digits v ++ l
+kept : (l : List ℕ) (v w : ℕ) → 1 ≤ v → after (Some v) l ≡ Some w → digits w ≡ digits v ++ l
 unfolding after next
 kept [] v w g e = let q : v ≡ w = cc in rw q (sym (append-nil (digits w)))
 kept (b ∷ l) v w g e =
@@ -114,7 +113,7 @@ kept (b ∷ l) v w g e =
     let low = a.low in
     kept l (10 * v + (b - 48)) w (omega arith) a.rest ∙ (ap (λ (z : List ℕ). z ++ l) (grown v b g a.low a.high a.fits) ∙ append_assoc (digits v) (b ∷ []) l)
 
-first-digit : (b : ℕ) (l : List ℕ) (w : ℕ) → misled (b ∷ l) ≡ false → after (shift 0 b) l ≡ Is w → b ∷ l ≡ digits w
+first-digit : (b : ℕ) (l : List ℕ) (w : ℕ) → misled (b ∷ l) ≡ false → after (shift 0 b) l ≡ Some w → b ∷ l ≡ digits w
 unfolding misled after
 first-digit b [] w m e =
     let a = accepted 0 b [] w e in
@@ -133,13 +132,13 @@ first-digit b (c ∷ l) w m e =
     let t : 48 + v ≡ b = omega arith in
     sym (kept (c ∷ l) v w (omega arith) a.rest ∙ ap (λ (z : List ℕ). z ++ (c ∷ l)) (digits-one v (omega arith) ∙ ap (λ (z : ℕ). z ∷ []) t))
 
-whole : (l : List ℕ) (w : ℕ) → misled l ≡ false → after (Is 0) l ≡ Is w → l ≡ digits w
+whole : (l : List ℕ) (w : ℕ) → misled l ≡ false → after (Some 0) l ≡ Some w → l ≡ digits w
 unfolding misled after next
 whole [] w m e = clash refl m
 whole (b ∷ l) w m e = first-digit b l w m e
 
-pub number-only : (l : List ℕ) (w : ℕ) → number l ≡ Is w → l ≡ digits w
+pub number-only : (l : List ℕ) (w : ℕ) → number l ≡ Some w → l ≡ digits w
 unfolding number pick
 number-only l w e = case (misled l)
-    (λ q. let f : Refused ≡ Is w = rw q at e in let z : ◌≡◌ {A = ℕ} 0 1 = cc in absurd (omega arith))
+    (λ q. let f : None ≡ Some w = rw q at e in cc)
     (λ q. whole l w q (rw q at e))

@@ -2,15 +2,16 @@
 use Prim.Native.Nat.{ℕ}
 use mathlib.Core.Path.{◌≡◌, refl}
 use mathlib.Core.List.{List, [], ◌∷◌, ◌++◌}
+use Rattle.std.specs.Prelude.{Option, Some, None}
 use Rattle.base.specs.Choice.{pick, both}
 use Rattle.base.specs.Record.{E, B, «V», X}
 use Rattle.script.specs.Line.{grow, fields, shift, next, after, misled, number, one_number, two_numbers, numbers_of, command_of, line_of}
 use Rattle.script.specs.Text.{digits_in, digits, spaced, ending, two, four, header, bytes_of}
 use Rattle.script.specs.declared.Command.{Command}
-use Rattle.script.specs.declared.Command.TheVariants.{Begin, Oracle, Restart, Deliver, Submit, Bad}
+use Rattle.script.specs.declared.Command.TheVariants.{Begin, Oracle, Restart, Deliver, Submit}
 
 -- lines in a row
-abbrev pub meant : List (List ℕ) → List Command
+abbrev pub meant : List (List ℕ) → List (Option Command)
 meant [] = []
 meant (l ∷ ls) = line_of l ∷ meant ls
 
@@ -18,7 +19,7 @@ meant (l ∷ ls) = line_of l ∷ meant ls
 pub good : meant (
     (78 ∷ 32 ∷ 51 ∷ []) ∷ (78 ∷ 32 ∷ 50 ∷ []) ∷ (78 ∷ 32 ∷ 56 ∷ []) ∷ (78 ∷ 32 ∷ 48 ∷ 51 ∷ []) ∷ (79 ∷ 32 ∷ 48 ∷ 32 ∷ 49 ∷ 48 ∷ []) ∷
     (82 ∷ 32 ∷ 54 ∷ []) ∷ (68 ∷ 32 ∷ 49 ∷ 32 ∷ 48 ∷ []) ∷ (83 ∷ 32 ∷ 48 ∷ 32 ∷ 52 ∷ 48 ∷ []) ∷ [])
-    ≡ Begin 3 ∷ Bad ∷ Bad ∷ Bad ∷ Oracle 0 10 ∷ Restart 6 ∷ Deliver 1 0 ∷ Submit 0 40 ∷ []
+    ≡ Some (Begin 3) ∷ None ∷ None ∷ None ∷ Some (Oracle 0 10) ∷ Some (Restart 6) ∷ Some (Deliver 1 0) ∷ Some (Submit 0 40) ∷ []
 unfolding grow fields shift next after misled number one_number two_numbers numbers_of command_of line_of pick both
 good = refl
 
@@ -26,12 +27,12 @@ good = refl
 pub bad : meant (
     [] ∷ (82 ∷ 32 ∷ 54 ∷ 13 ∷ []) ∷ (82 ∷ 32 ∷ 32 ∷ 54 ∷ []) ∷ (32 ∷ 82 ∷ 32 ∷ 54 ∷ []) ∷ (82 ∷ 32 ∷ 54 ∷ 32 ∷ []) ∷ (82 ∷ 32 ∷ 43 ∷ 54 ∷ []) ∷
     (82 ∷ 32 ∷ 54 ∷ 32 ∷ 54 ∷ []) ∷ (68 ∷ 32 ∷ 54 ∷ []) ∷ (69 ∷ 32 ∷ 54 ∷ []) ∷ (68 ∷ 32 ∷ 49 ∷ 32 ∷ 48 ∷ 32 ∷ 48 ∷ []) ∷ [])
-    ≡ Bad ∷ Bad ∷ Bad ∷ Bad ∷ Bad ∷ Bad ∷ Bad ∷ Bad ∷ Bad ∷ Bad ∷ []
+    ≡ None ∷ None ∷ None ∷ None ∷ None ∷ None ∷ None ∷ None ∷ None ∷ None ∷ []
 unfolding grow fields shift next after misled number one_number two_numbers numbers_of command_of line_of pick both
 bad = refl
 
 -- the greatest value, and one more
-pub widest : meant ((83 ∷ 32 ∷ 48 ∷ spaced 18446744073709551615) ∷ (83 ∷ 32 ∷ 48 ∷ spaced 18446744073709551616) ∷ []) ≡ Submit 0 18446744073709551615 ∷ Bad ∷ []
+pub widest : meant ((83 ∷ 32 ∷ 48 ∷ spaced 18446744073709551615) ∷ (83 ∷ 32 ∷ 48 ∷ spaced 18446744073709551616) ∷ []) ≡ Some (Submit 0 18446744073709551615) ∷ None ∷ []
 unfolding grow fields shift next after misled number one_number two_numbers numbers_of command_of line_of pick both spaced digits digits_in
 widest = refl
 

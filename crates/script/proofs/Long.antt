@@ -9,12 +9,11 @@ use lib.Dec.{eqb}
 use lib.ListN.{length}
 use Rattle.base.specs.Choice.{pick}
 use Rattle.base.proofs.Choice.{case, le-or-lt}
-use Rattle.script.specs.declared.Value.{Value}
-use Rattle.script.specs.declared.Value.TheVariants.{Is, Refused}
-use Rattle.script.specs.declared.Command.TheVariants.{Bad}
+use Rattle.std.specs.Prelude.{Option, Some, None}
 use Rattle.script.specs.Line.{grow, fields, number, one_number, two_numbers, numbers_of, command_of, line_of}
 use Rattle.script.specs.Text.{digits}
 use Rattle.script.proofs.Texts.{few}
+use Rattle.script.proofs.Lines.{second}
 use Rattle.script.proofs.Back.{number-only}
 
 -- the bytes of fields, each with a space
@@ -35,20 +34,15 @@ spread-fields (b ∷ l) = case (eqb b 32)
     (λ (q : eqb b 32 ≡ false). rw q (grown b (length l) (fields l) (spread-fields l)))
 
 -- a number has at most twenty digits
-long-number : (f : List ℕ) → 20 < length f → number f ≡ Refused
+long-number : (f : List ℕ) → 20 < length f → number f ≡ None
 unfolding digits
 long-number f h = of (number f) refl
   where
-    of : (r : Value) → number f ≡ r → r ≡ Refused
-    of Refused e = refl
-    of (Is w) e = absurd (omega (arith, few 20 w, ap length (number-only f w e)))
+    of : (r : Option ℕ) → number f ≡ r → r ≡ None
+    of None e = refl
+    of (Some w) e = absurd (omega (arith, few 20 w, ap length (number-only f w e)))
 
-second : (k : ℕ) (x : Value) → two_numbers k x Refused ≡ Bad
-unfolding two_numbers
-second k Refused = refl
-second k (Is v) = refl
-
-long-numbers : (k : ℕ) (fs : List (List ℕ)) → 42 < spread fs → numbers_of k fs ≡ Bad
+long-numbers : (k : ℕ) (fs : List (List ℕ)) → 42 < spread fs → numbers_of k fs ≡ None
 unfolding numbers_of spread one_number two_numbers
 long-numbers k [] h = refl
 long-numbers k (x ∷ []) h = rw (long-number x (omega arith))
@@ -58,13 +52,13 @@ long-numbers k (x ∷ y ∷ []) h = ⊎_elim
     (le-or-lt (length x) 20)
 long-numbers k (x ∷ y ∷ z ∷ fs) h = refl
 
-long-command : (fs : List (List ℕ)) → 44 < spread fs → command_of fs ≡ Bad
+long-command : (fs : List (List ℕ)) → 44 < spread fs → command_of fs ≡ None
 unfolding command_of spread
 long-command [] h = refl
 long-command ([] ∷ fs) h = refl
 long-command ((k ∷ []) ∷ fs) h = long-numbers k fs (omega arith)
 long-command ((k ∷ j ∷ l) ∷ fs) h = refl
 
-pub long-bad : (l : List ℕ) → 43 < length l → line_of l ≡ Bad
+pub long-bad : (l : List ℕ) → 43 < length l → line_of l ≡ None
 unfolding line_of
 long-bad l h = long-command (fields l) (omega (arith, spread-fields l))

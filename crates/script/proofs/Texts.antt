@@ -1,17 +1,20 @@
 -- Laws of writing: digits, and bytes put one after the other.
 use Prim.Native.Nat.{ℕ, zero, suc, ◌+◌, ◌*◌, ◌/◌, ◌%◌, ◌≤◌, ◌<◌}
 use mathlib.Core.Path.{◌≡◌, sym, ap, ◌∙◌}
-use mathlib.Core.List.{List, [], ◌∷◌, ◌++◌, append_assoc}
+use mathlib.Core.List.{List, [], ◌∷◌, ◌++◌, append_assoc, append-nil}
 use native.Mathlib.Omega.{arith}
 use lib.Dec.{ltb}
-use lib.ListN.{length, take, drop, set, length-append, length-set}
-use lib.Seq.{set_split}
+use lib.ListN.{length, take, drop, set, get_or, length-append, length-set}
+use lib.Seq.{set_split, take-suc, take_all}
 use borrow.Author.Tests.{lt-ltb, le-ltb, ltb-true, ltb-false}
+use native.Mathlib.Numerals.{add-one}
+use Rattle.std.specs.List.{flat_map}
+use Rattle.std.proofs.lemmas.Grind.{flat_map-append}
 use Rattle.base.specs.Choice.{pick}
 use Rattle.base.proofs.Choice.{case, pick_at}
 use Rattle.rules.proofs.Words.{put-put}
 use Rattle.rules.specs.Words.{put}
-use Rattle.script.specs.Text.{digits_in, digits, spaced, ending, two, four, header, Wrote}
+use Rattle.script.specs.Text.{digits_in, digits, spaced, ending, row, two, four, header, Wrote}
 
 -- ---- digits
 
@@ -85,34 +88,42 @@ pub field-wrote : (q q2 : List ℕ) (at r v : ℕ) → at < length q → Wrote (
 unfolding spaced
 field-wrote q q2 at r v h w = wrote_then q (set q at 32) q2 (32 ∷ []) (digits v) at (at + 1) r (omega arith) (wrote_one q at 32 h) w
 
-pub ending-wrote : (q q1 q2 : List ℕ) (at e f a b : ℕ) → at ≤ length q → e ≤ length q1 → f < length q2 → Wrote q at (spaced a) e q1 → Wrote q1 e (spaced b) f q2
-    → Wrote q at (ending a b) (f + 1) (set q2 f 10)
-unfolding ending
-ending-wrote q q1 q2 at e f a b h k l x y =
-    wrote_then q q1 (set q2 f 10) (spaced a) (spaced b ++ (10 ∷ [])) at e (f + 1) h x
-    (wrote_then q1 q2 (set q2 f 10) (spaced b) (10 ∷ []) e f (f + 1) k y (wrote_one q2 f 10 l))
+-- the first i of the numbers were written after the letter
+abbrev pub begun : ℕ → List ℕ → ℕ → List ℕ
+begun letter vs i = letter ∷ flat_map spaced (take i vs)
 
-pub two-wrote : (q q2 : List ℕ) (at r letter a b : ℕ) → at < length q → Wrote (set q at letter) (at + 1) (ending a b) r q2 → Wrote q at (two letter a b) r q2
-unfolding two
-two-wrote q q2 at r letter a b h w = wrote_then q (set q at letter) q2 (letter ∷ []) (ending a b) at (at + 1) r (omega arith) (wrote_one q at letter h) w
+begun-on : (letter : ℕ) (vs : List ℕ) (i : ℕ) → i < length vs → begun letter vs (i + 1) ≡ begun letter vs i ++ spaced (get_or vs i 0)
+begun-on letter vs i h = rw (add-one i, take-suc vs i 0 h, flat_map-append spaced (take i vs) (get_or vs i 0 ∷ []), append-nil (spaced (get_or vs i 0)))
 
-pub four-wrote : (q q1 q2 q3 : List ℕ) (at e f r letter a b c d : ℕ) → at < length q → at + 1 ≤ length (set q at letter) → e ≤ length q1
-    → Wrote (set q at letter) (at + 1) (spaced a) e q1 → Wrote q1 e (spaced b) f q2 → Wrote q2 f (ending c d) r q3 → Wrote q at (four letter a b c d) r q3
-unfolding four
-four-wrote q q1 q2 q3 at e f r letter a b c d h g k x y z =
-    wrote_then q (set q at letter) q3 (letter ∷ []) (spaced a ++ (spaced b ++ ending c d)) at (at + 1) r (omega arith) (wrote_one q at letter h)
-    (wrote_then (set q at letter) q1 q3 (spaced a) (spaced b ++ ending c d) (at + 1) e r g x
-    (wrote_then q1 q2 q3 (spaced b) (ending c d) e f r k y z))
+module _ (q vs : List ℕ) (at letter : ℕ) (room : at + 2 + 21 * length vs ≤ length q) where
+  pub row-on : (q1 q2 : List ℕ) (e r i : ℕ) → i < length vs → Wrote q at (begun letter vs i) e q1 → Wrote q1 e (spaced (get_or vs i 0)) r q2 → Wrote q at (begun letter vs (i + 1)) r q2
+  row-on q1 q2 e r i k x y = rw (begun-on letter vs i k) (wrote_then q q1 q2 (begun letter vs i) (spaced (get_or vs i 0)) at e r (omega arith) x y)
 
-pub header-wrote : (q q3 : List ℕ) (at r n : ℕ) → at + 2 ≤ length q → Wrote (set (set q at 84) (at + 1) 82) (at + 2) (two 67 1 n) r q3 → Wrote q at (header n) r q3
+  pub row-end : (q1 : List ℕ) (e i : ℕ) → length q1 ≡ length (set q at letter) → e ≤ at + 1 + 21 * i → i ≤ length vs → length vs ≤ i → Wrote q at (begun letter vs i) e q1
+      → Wrote q at (row letter vs) (e + 1) (set q1 e 10)
+  unfolding row
+  row-end q1 e i s m h k x =
+      let n : e < length q1 = rw (s, length-set) (omega arith) in
+      let y = wrote_then q q1 (set q1 e 10) (begun letter vs i) (10 ∷ []) at e (e + 1) (omega arith) x (wrote_one q1 e 10 n) in
+      rw (take_all i vs k) at y
+
+pub row-two : (letter a b : ℕ) → row letter (a ∷ b ∷ []) ≡ two letter a b
+unfolding row two ending
+row-two letter a b = simp (append-nil, append_assoc)
+
+pub row-four : (letter a b c d : ℕ) → row letter (a ∷ b ∷ c ∷ d ∷ []) ≡ four letter a b c d
+unfolding row four ending
+row-four letter a b c d = simp (append-nil, append_assoc)
+
+pub header-wrote : (q q3 : List ℕ) (at r m n : ℕ) → at + 2 ≤ length q → m ≡ n → Wrote (set (set q at 84) (at + 1) 82) (at + 2) (row 67 (1 ∷ m ∷ [])) r q3 → Wrote q at (header n) r q3
 unfolding header
-header-wrote q q3 at r n h z =
-    let m : at + 1 + 1 ≡ at + 2 = omega arith in
+header-wrote q q3 at r m n h p z =
+    let e : at + 1 + 1 ≡ at + 2 = omega arith in
     let q1 = set q at 84 in
     let l : at + 1 < length q1 = simp length-set (omega arith) in
-    let y : Wrote q1 (at + 1) (82 ∷ []) (at + 2) (set q1 (at + 1) 82) = rw m at (wrote_one q1 (at + 1) 82 l) in
+    let y : Wrote q1 (at + 1) (82 ∷ []) (at + 2) (set q1 (at + 1) 82) = rw e at (wrote_one q1 (at + 1) 82 l) in
     wrote_then q q1 q3 (84 ∷ []) (82 ∷ two 67 1 n) at (at + 1) r (omega arith) (wrote_one q at 84 (omega arith))
-    (wrote_then q1 (set q1 (at + 1) 82) q3 (82 ∷ []) (two 67 1 n) (at + 1) (at + 2) r (omega arith) y z)
+    (wrote_then q1 (set q1 (at + 1) 82) q3 (82 ∷ []) (two 67 1 n) (at + 1) (at + 2) r (omega arith) y (rw (p, row-two 67 1 n) at z))
 
 -- two answers that both meet the contract are the same
 pub only : (q ws q1 q2 : List ℕ) (at r s : ℕ) → Wrote q at ws r q1 → Wrote q at ws s q2 → (r ≡ s) × (q1 ≡ q2)

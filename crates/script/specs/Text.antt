@@ -1,5 +1,6 @@
 -- The bytes of a trace's header and records. 32 is the space, 10 the newline, 48 the digit zero.
 use Rattle.std.specs.Prelude.{ℕ, zero, suc, ◌+◌, ◌/◌, ◌%◌, ◌≡◌, List, [], ◌∷◌, ◌++◌, ltb, length}
+use Rattle.std.specs.List.{flat_map}
 use Rattle.base.specs.Choice.{pick}
 use Rattle.base.specs.Record.{Rec, E, B, «V», X}
 use Rattle.rules.specs.Words.{put}
@@ -17,6 +18,10 @@ digits v = digits_in 20 v
 
 unfoldable pub spaced : ℕ → List ℕ
 spaced v = 32 ∷ digits v
+
+-- a letter, each number after a space, and the newline
+unfoldable pub row : ℕ → List ℕ → List ℕ
+row letter vs = letter ∷ (flat_map spaced vs ++ (10 ∷ []))
 
 -- two numbers end a line
 unfoldable pub ending : ℕ → ℕ → List ℕ

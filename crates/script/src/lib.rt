@@ -1,14 +1,11 @@
 // A script's line read, and a trace's record written, on lent bytes.
 #![tactic(auto)]
 
-ghost use Rattle.std.specs.Prelude.{◌≡◌, ◌+◌, ◌≤◌, ◌<◌, length, drop};
-ghost use Rattle.script.specs.Line.{upto, shift, after, misled, number, one_number, two_numbers, line_of};
-ghost use Rattle.script.specs.Text.{digits, spaced, ending, two, four, header, bytes_of, rec_of, Wrote};
-ghost use Rattle.script.specs.declared.Value.TheVariants.{Is};
+ghost use Rattle.std.specs.Prelude.{◌≡◌, ◌+◌, ◌*◌, ◌≤◌, ◌==◌, length, position};
+ghost use Rattle.script.specs.Line.{shift, after, misled, number, one_number, two_numbers, line_of};
+ghost use Rattle.script.specs.Text.{digits, spaced, row, header, bytes_of, rec_of, Wrote};
 
-const MAX: u64 = 18446744073709551615;
-
-// A command of the script; Bad is any other line.
+// A command of the script.
 #[derive(Clone, Copy)]
 pub enum Command {
     Begin(u8),
@@ -16,14 +13,6 @@ pub enum Command {
     Restart(u64),
     Deliver(u64, u64),
     Submit(u64, u64),
-    Bad,
-}
-
-// A field read as a number.
-#[derive(Clone, Copy)]
-pub enum Value {
-    Is(u64),
-    Refused,
 }
 
 // A record of the trace: E server epoch; B and V server epoch counter value; X line refusal.
@@ -35,146 +24,87 @@ pub enum Note {
     Refuses(u64, u64),
 }
 
-// The place of the first space from `from` on, or the end.
-fn space(line: &[u8], from: usize) -> usize
-    requires { from ≤ length line.now }
-    ensures { (result ≡ from + upto (drop from line.now)) × ((from ≤ result) × (result ≤ length line.now)) }
-{
-    let mut i = from;
-    while i < line.len() {
-        if line[i] == 32 {
-            return i;
-        }
-        i += 1;
-    }
-    i
-}
-
 // The value so far with one digit more.
-fn shift(v: u64, b: u8) -> Value
+fn shift(v: u64, b: u8) -> Option<u64>
     ensures { result ≡ shift v b }
 {
-    if b < 48 {
-        return Value::Refused;
+    if !b.is_ascii_digit() {
+        return None;
     }
-    if 57 < b {
-        return Value::Refused;
-    }
-    let d = words::wide(b) - 48;
-    if (MAX - d) / 10 < v {
-        return Value::Refused;
-    }
-    Value::Is(10 * v + d)
+    v.checked_mul(10)?.checked_add(u64::from(b - b'0'))
 }
 
-fn read_digits(part: &[u8]) -> Value
-    ensures { result ≡ after (Is 0) part.now }
+fn read_digits(part: &[u8]) -> Option<u64>
+    ensures { result ≡ after (Some 0) part.now }
 {
-    let mut v: u64 = 0;
-    let mut i = 0;
-    while i < part.len() {
-        let next = shift(v, part[i]);
-        let Value::Is(w) = next else {
-            return Value::Refused;
-        };
-        v = w;
-        i += 1;
+    let mut v = 0;
+    for b in part {
+        v = shift(v, *b)?;
     }
-    Value::Is(v)
+    Some(v)
 }
 
 // No digit at all, or a zero before others.
 fn misled(part: &[u8]) -> bool
     ensures { result ≡ misled part.now }
 {
-    if part.len() == 0 {
-        return true;
-    }
-    if part.len() == 1 {
-        return false;
-    }
-    part[0] == 48
+    matches!(part, [] | [b'0', _, ..])
 }
 
-pub fn number(part: &[u8]) -> Value
+pub fn number(part: &[u8]) -> Option<u64>
     ensures { result ≡ number part.now }
 {
     if misled(part) {
-        return Value::Refused;
+        return None;
     }
     read_digits(part)
 }
 
-fn begin(n: u64) -> Command
-    ensures { result ≡ one_number 78 (Is n) }
+// N with three to seven servers, or R.
+fn one_number(kind: u8, v: u64) -> Option<Command>
+    ensures { result ≡ one_number kind (Some v) }
 {
-    if n < 3 {
-        return Command::Bad;
+    match (kind, v) {
+        (b'N', 3..=7) => Some(Command::Begin(v as u8)),
+        (b'R', _) => Some(Command::Restart(v)),
+        _ => None,
     }
-    if 7 < n {
-        return Command::Bad;
-    }
-    Command::Begin(n as u8)
 }
 
-fn one_number(kind: u8, x: Value) -> Command
-    ensures { result ≡ one_number kind x }
+// O, D or S.
+fn two_numbers(kind: u8, v: u64, w: u64) -> Option<Command>
+    ensures { result ≡ two_numbers kind (Some v) (Some w) }
 {
-    let Value::Is(v) = x else {
-        return Command::Bad;
-    };
-    if kind == b'N' {
-        return begin(v);
+    match kind {
+        b'O' => Some(Command::Oracle(v, w)),
+        b'D' => Some(Command::Deliver(v, w)),
+        b'S' => Some(Command::Submit(v, w)),
+        _ => None,
     }
-    if kind == b'R' {
-        return Command::Restart(v);
-    }
-    Command::Bad
 }
 
-fn two_numbers(kind: u8, x: Value, y: Value) -> Command
-    ensures { result ≡ two_numbers kind x y }
+// The place of the first space.
+fn space(line: &[u8]) -> Option<usize>
+    ensures { result ≡ position (λ b. b == 32) line.now }
 {
-    let Value::Is(v) = x else {
-        return Command::Bad;
-    };
-    let Value::Is(w) = y else {
-        return Command::Bad;
-    };
-    if kind == b'O' {
-        return Command::Oracle(v, w);
-    }
-    if kind == b'D' {
-        return Command::Deliver(v, w);
-    }
-    if kind == b'S' {
-        return Command::Submit(v, w);
-    }
-    Command::Bad
+    line.iter().position(|b| *b == b' ')
 }
 
 // The command that a line stands for.
-pub fn parse(line: &[u8]) -> Command
+pub fn parse(line: &[u8]) -> Option<Command>
     ensures { result ≡ line_of line.now }
 {
-    let a = space(line, 0);
-    if a != 1 {
-        return Command::Bad;
+    let [kind, b' ', rest @ ..] = line else {
+        return None;
+    };
+    match space(rest) {
+        None => one_number(*kind, number(rest)?),
+        Some(i) => {
+            let x = number(&rest[..i])?;
+            let y = number(&rest[i + 1..])?;
+            two_numbers(*kind, x, y)
+        }
     }
-    if a == line.len() {
-        return Command::Bad;
-    }
-    let b = space(line, 2);
-    let x = number(&line[2..b]);
-    if b == line.len() {
-        return one_number(line[0], x);
-    }
-    let e = space(line, b + 1);
-    if e != line.len() {
-        return Command::Bad;
-    }
-    let y = number(&line[b + 1..e]);
-    two_numbers(line[0], x, y)
 }
 
 // v in decimal, without leading zeros.
@@ -182,7 +112,7 @@ fn write_number(out: &mut [u8], at: usize, v: u64) -> usize
     requires { at + 20 ≤ length out.old }
     ensures { Wrote out.old at (digits v) result out.new × (result ≤ at + 20) }
 {
-    let d = 48 + (v % 10) as u8;
+    let d = b'0' + (v % 10) as u8;
     if v < 10 {
         out[at] = d;
         return at + 1;
@@ -197,37 +127,22 @@ fn write_field(out: &mut [u8], at: usize, v: u64) -> usize
     requires { at + 21 ≤ length out.old }
     ensures { Wrote out.old at (spaced v) result out.new × (result ≤ at + 21) }
 {
-    out[at] = 32;
+    out[at] = b' ';
     write_number(out, at + 1, v)
 }
 
-// Two numbers and the newline.
-fn write_ending(out: &mut [u8], at: usize, a: u64, b: u64) -> usize
-    requires { at + 43 ≤ length out.old }
-    ensures { Wrote out.old at (ending a b) result out.new × (result ≤ at + 43) }
-{
-    let e = write_field(out, at, a);
-    let f = write_field(out, e, b);
-    out[f] = 10;
-    f + 1
-}
-
-fn write_two(out: &mut [u8], at: usize, letter: u8, a: u64, b: u64) -> usize
-    requires { at + 44 ≤ length out.old }
-    ensures { Wrote out.old at (two letter a b) result out.new × (result ≤ at + 44) }
+// A letter, each number after a space, and the newline.
+fn write_row(out: &mut [u8], at: usize, letter: u8, numbers: &[u64]) -> usize
+    requires { at + 2 + 21 * length numbers.now ≤ length out.old }
+    ensures { Wrote out.old at (row letter numbers.now) result out.new × (result ≤ at + 2 + 21 * length numbers.now) }
 {
     out[at] = letter;
-    write_ending(out, at + 1, a, b)
-}
-
-fn write_four(out: &mut [u8], at: usize, letter: u8, a: u64, b: u64, c: u64, d: u64) -> usize
-    requires { at + 86 ≤ length out.old }
-    ensures { Wrote out.old at (four letter a b c d) result out.new × (result ≤ at + 86) }
-{
-    out[at] = letter;
-    let e = write_field(out, at + 1, a);
-    let f = write_field(out, e, b);
-    write_ending(out, f, c, d)
+    let mut end = at + 1;
+    for v in numbers {
+        end = write_field(out, end, *v);
+    }
+    out[end] = b'\n';
+    end + 1
 }
 
 // The header of a trace of n servers.
@@ -237,7 +152,7 @@ pub fn write_header(out: &mut [u8], at: usize, n: u8) -> usize
 {
     out[at] = b'T';
     out[at + 1] = b'R';
-    write_two(out, at + 2, b'C', 1, words::wide(n))
+    write_row(out, at + 2, b'C', &[1, u64::from(n)])
 }
 
 // One record with its newline.
@@ -246,9 +161,9 @@ pub fn write_record(out: &mut [u8], at: usize, note: Note) -> usize
     ensures { Wrote out.old at (bytes_of (rec_of note)) result out.new × (result ≤ at + 96) }
 {
     match note {
-        Note::Enters(s, e) => write_two(out, at, b'E', s, e),
-        Note::Takes(s, e, c, v) => write_four(out, at, b'B', s, e, c, v),
-        Note::Delivers(s, e, c, v) => write_four(out, at, b'V', s, e, c, v),
-        Note::Refuses(line, k) => write_two(out, at, b'X', line, k),
+        Note::Enters(s, e) => write_row(out, at, b'E', &[s, e]),
+        Note::Takes(s, e, c, v) => write_row(out, at, b'B', &[s, e, c, v]),
+        Note::Delivers(s, e, c, v) => write_row(out, at, b'V', &[s, e, c, v]),
+        Note::Refuses(line, k) => write_row(out, at, b'X', &[line, k]),
     }
 }

@@ -1,12 +1,19 @@
-use Rattle.script.proofs.Lines.{misled-none, misled-one, misled-more}
 use borrow.Author.Rules.{rules}
+use Rattle.script.specs.Line.{misled}
 use Rattle.script.proofs.misled.Goals as goal
 
-pub returns-then-part-eq0 : goal.returns-then-part-eq0
-returns-then-part-eq0 c = search (misled-none, rules)
+pub returns-in_default : goal.returns-in_default
+unfolding misled
+returns-in_default c = search rules
 
-pub returns-then-part-eq1 : goal.returns-then-part-eq1
-returns-then-part-eq1 c = search (misled-one, rules)
+pub returns-in_default-2 : goal.returns-in_default-2
+unfolding misled
+returns-in_default-2 c = search rules
 
-pub returns : goal.returns
-returns c = misled-more c.args.part.now c.if-part-eq0.false c.if-part-eq1.false
+pub returns-in-empty : goal.returns-in-empty
+unfolding misled
+returns-in-empty c = search rules
+
+pub returns-in-empty-2 : goal.returns-in-empty-2
+unfolding misled
+returns-in-empty-2 c = search rules

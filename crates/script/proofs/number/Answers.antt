@@ -1,9 +1,12 @@
-use Rattle.script.proofs.Lines.{number-bad, number_read}
 use borrow.Author.Rules.{rules}
+use Rattle.base.specs.Choice.{pick}
+use Rattle.script.specs.Line.{number}
 use Rattle.script.proofs.number.Goals as goal
 
 pub returns-then-misled : goal.returns-then-misled
-returns-then-misled c = search (number-bad, rules)
+unfolding number pick
+returns-then-misled c = search rules
 
 pub returns : goal.returns
-returns c = search (number_read, rules)
+unfolding number pick
+returns c = search rules

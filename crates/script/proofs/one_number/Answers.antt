@@ -1,15 +1,24 @@
-use Rattle.script.proofs.Lines.{one_none, one-n, one-r, one-other}
 use borrow.Author.Rules.{rules}
+use Rattle.base.specs.Choice.{pick, both}
+use Rattle.script.specs.Line.{one_number}
 use Rattle.script.proofs.one_number.Goals as goal
 
+pub returns-in-78-3-to-7 : goal.returns-in-78-3-to-7
+unfolding one_number pick both
+returns-in-78-3-to-7 c = search rules
+
+pub returns-in-82-default : goal.returns-in-82-default
+unfolding one_number pick both
+returns-in-82-default c = search rules
+
 pub returns-in_default : goal.returns-in_default
-returns-in_default c = search (one_none, rules)
+unfolding one_number pick both
+returns-in_default c = search rules
 
-pub returns-then-kind-eq78 : goal.returns-then-kind-eq78
-returns-then-kind-eq78 c = search (one-n, rules)
+pub returns-in_default-2 : goal.returns-in_default-2
+unfolding one_number pick both
+returns-in_default-2 c = search rules
 
-pub returns-then-kind-eq82 : goal.returns-then-kind-eq82
-returns-then-kind-eq82 c = search (one-r, rules)
-
-pub returns : goal.returns
-returns c = search (one-other, rules)
+pub returns-in_default-3 : goal.returns-in_default-3
+unfolding one_number pick both
+returns-in_default-3 c = search rules

@@ -1,18 +1,25 @@
-use native.Mathlib.Omega.{arith}
-use Rattle.script.proofs.Lines.{parse-letter, parse-alone, parse-one, parse-many, parse-two}
+use mathlib.Core.Path.{refl}
+use borrow.Author.Rules.{rules}
+use Rattle.script.proofs.Lines.{none-short, none-wide, line-one, line-two, one-refused, one-read, two-refused, two-half, two-read}
 use Rattle.script.proofs.parse.Goals as goal
 
-pub returns-then-a-ne1 : goal.returns-then-a-ne1
-returns-then-a-ne1 c = parse-letter c.args.line.now c.space-a.result c.space-a.ensures.0 c.if-a-ne1.true
+pub returns-in_default : goal.returns-in_default
+returns-in_default c = search (none-short, rules)
 
-pub returns-then-a-line : goal.returns-then-a-line
-returns-then-a-line c = parse-alone c.args.line.now c.space-a.result c.space-a.ensures.0 c.if-a-line.true
+pub returns-in_default-2 : goal.returns-in_default-2
+returns-in_default-2 c = search (none-wide, rules)
 
-pub returns-then-b-line : goal.returns-then-b-line
-returns-then-b-line c = parse-one c.args.line.now c.space-a.result c.space-b.result c.space-a.ensures.0 (omega (arith, c.if-a-ne1.false)) c.if-a-line.false c.space-a.ensures.1.1 c.space-b.ensures.0 c.number-x.result c.one_number.result c.if-b-line.true c.number-x.ensures c.one_number.ensures
+pub returns-in_err-number-in-None : goal.returns-in_err-number-in-None
+returns-in_err-number-in-None c = search (line-one, one-refused, rules)
 
-pub returns-then-e-line : goal.returns-then-e-line
-returns-then-e-line c = parse-many c.args.line.now c.space-a.result c.space-b.result c.space-a.ensures.0 (omega (arith, c.if-a-ne1.false)) c.if-a-line.false c.space-a.ensures.1.1 c.space-b.ensures.0 c.space-e.result c.if-b-line.false c.space-b.ensures.1.1 c.space-e.ensures.0 c.if-e-line.true c.space-e.ensures.1.1
+pub returns-in_err-x-in-Some : goal.returns-in_err-x-in-Some
+returns-in_err-x-in-Some c = line-two c.args.line.now (search rules) (search rules) _ _ _ _ c.in-Some.i c.space.ensures c.in-Some.is c.number-in-Some.ensures refl (two-refused _ _ _ _ c.in_err-x-in-Some.was (search rules))
 
-pub returns : goal.returns
-returns c = parse-two c.args.line.now c.space-a.result c.space-b.result c.space-a.ensures.0 (omega (arith, c.if-a-ne1.false)) c.if-a-line.false c.space-a.ensures.1.1 c.space-b.ensures.0 c.space-e.result c.number-x.result c.number-y.result c.two_numbers.result c.if-b-line.false c.space-b.ensures.1.1 c.space-e.ensures.0 (omega (arith, c.if-e-line.false)) c.number-x.ensures c.number-y.ensures c.two_numbers.ensures
+pub returns-in_err-y-in-Some : goal.returns-in_err-y-in-Some
+returns-in_err-y-in-Some c = search (line-two, two-half, c.in_err-y-in-Some.was, rules)
+
+pub returns-in_ok-number-in-None : goal.returns-in_ok-number-in-None
+returns-in_ok-number-in-None c = search (line-one, one-read, c.in_ok-number-in-None.was, rules)
+
+pub returns-in_ok-y-in-Some : goal.returns-in_ok-y-in-Some
+returns-in_ok-y-in-Some c = search (line-two, two-read, c.in_ok-x-in-Some.was, c.in_ok-y-in-Some.was, rules)
