@@ -1,26 +1,26 @@
--- Laws of the exported step, one for each return.
-use Prim.Native.Nat.{ℕ, ◌+◌, ◌-◌, ◌*◌, ◌%◌, ◌≤◌, ◌<◌}
+-- Laws of the exported step.
+use Prim.Native.Nat.{ℕ, ◌+◌, ◌-◌, ◌*◌, ◌≤◌, ◌<◌}
 use mathlib.Core.Path.{◌≡◌, refl, sym, ap, ◌∙◌}
 use mathlib.Core.Logic.{◌≢◌, ⊎_elim}
-use mathlib.Core.Bool.{Bool, true, false, not}
+use mathlib.Core.Bool.{true, false}
 use mathlib.Core.List.{List, [], ◌∷◌, ◌++◌, append-nil}
 use native.Mathlib.Omega.{arith}
 use lib.Dec.{eqb, leb}
-use lib.ListN.{length, take, drop, set, replicate, drop_of_length-le}
+use lib.ListN.{length, take, drop, replicate, drop_of_length-le}
 use lib.Seq.{take_at, take_all}
-use borrow.Author.Tests.{eqb-true, leb-true, eq-eqb, ne_eqb, le-leb, lt-leb}
+use borrow.Author.Tests.{eqb-true, leb-true, eq-eqb, ne_eqb}
 use borrow.Rule.Slice.PartMut.{put_mid, same_len_mid}
 use Rattle.base.specs.Choice.{pick, both}
 use Rattle.base.specs.declared.Sizes.{Sizes}
-use Rattle.base.proofs.Choice.{both_true, not_is, eq-or, not-no}
+use Rattle.base.proofs.Choice.{both_true, eq-or}
 use Rattle.rules.specs.declared.State.{State}
 use Rattle.rules.specs.Words.{put}
 use Rattle.octets.specs.Bytes.{words_of, bytes_of}
-use Rattle.octets.specs.Record.{bit, state_words, state_at, fits}
-use Rattle.octets.proofs.Laws.{length-words, length-bytes}
-use Rattle.server.specs.declared.Answer.{Answer}
+use Rattle.octets.specs.Record.{state_words, state_at, fits}
+use Rattle.octets.proofs.Laws.{length-words, length-bytes, bit-from}
+use Rattle.std.specs.Int.{from_bool}
 use Rattle.server.specs.declared.Event.{Event}
-use Rattle.server.specs.Whole.{step_of, Does as WordsDo}
+use Rattle.server.specs.Whole.{step_of, Reply, Does as WordsDo}
 use Rattle.cabinet.proofs.Few.{sent-few}
 use Rattle.cabinet.specs.Zab.{hist_size, box_size, event_of, lent_words, sized, slotted, sizes, word_step, After, answered, zab_of, Does, Lent, Steps}
 
@@ -52,7 +52,7 @@ front n b b' H y l q =
     let e : 8 * n ≡ 0 + length (bytes_of y) = omega (arith, length-bytes y) in
     q ∙ rw (came-back n H y l) (ap (λ (i : ℕ). bytes_of y ++ drop i b) e)
 
-module _ (z : Sizes) (s : State) (ev : Event) (lent n j : ℕ) (h k m o H K M O rh rk rm ro : List ℕ) (a : Answer) (yh yk yo : List ℕ)
+module _ (z : Sizes) (s : State) (ev : Event) (lent n j : ℕ) (h k m o H K M O rh rk rm ro : List ℕ) (a : Reply) (yh yk yo : List ℕ)
     (en : n ≡ hist_size z.room.0) (ej : j ≡ box_size z.room.0)
     (eh : H ≡ words_of n h ++ rh) (ek : K ≡ words_of n k ++ rk) (em : M ≡ words_of lent m ++ rm) (eo : O ≡ words_of j o ++ ro)
     (d : WordsDo (step_of z s ev (take (n - 0) (drop 0 H)) (take (n - 0) (drop 0 K)) (take (lent - 0) (drop 0 M)) (take (j - 0) (drop 0 O))) a yh yk yo) where
@@ -88,37 +88,22 @@ module _ (z : Sizes) (s : State) (ev : Event) (lent n j : ℕ) (h k m o H K M O 
 
 -- ---- the lengths
 
-pub record Sized (room b h k o t : ℕ) : Type 0 where
+record Sized (room b h k o : ℕ) : Type 0 where
   pub most : room ≤ 64
   pub rec : b ≡ 304
   pub hist : h ≡ 8 * hist_size room
   pub cand : k ≡ 8 * hist_size room
   pub box : 8 * box_size room ≤ o
-  pub told : t ≡ 2
 
-module _ (room b h k o t : ℕ) (most : room ≤ 64) (eb : b ≡ 304) (eh : h ≡ 8 * hist_size room) (ek : k ≡ 8 * hist_size room) where
-  pub box-small : o < 8 * (6 * (5 + 2 * room)) → false ≡ sized room b h k o t
-  unfolding sized both
-  box-small l = rw (le-leb room 64 most, eq-eqb b 304 eb, eq-eqb h _ eh, eq-eqb k _ ek, lt-leb (8 * box_size room) o (omega arith))
-
-  pub box-odd : 8 * (6 * (5 + 2 * room)) ≤ o → o % 8 ≢ 0 → false ≡ sized room b h k o t
-  unfolding sized both
-  box-odd l n = rw (le-leb room 64 most, eq-eqb b 304 eb, eq-eqb h _ eh, eq-eqb k _ ek, le-leb (8 * box_size room) o (omega arith), ne_eqb (o % 8) 0 n)
-
-  pub box-well : 8 * (6 * (5 + 2 * room)) ≤ o → o % 8 ≡ 0 → eqb t 2 ≡ sized room b h k o t
-  unfolding sized both
-  box-well l n = rw (le-leb room 64 most, eq-eqb b 304 eb, eq-eqb h _ eh, eq-eqb k _ ek, le-leb (8 * box_size room) o (omega arith), eq-eqb (o % 8) 0 n)
-
-pub sized-says : (room b h k o t : ℕ) (x : Bool) → x ≡ sized room b h k o t → not x ≡ false → Sized room b h k o t
+sized-says : (room b h k o t : ℕ) → sized room b h k o t ≡ true → Sized room b h k o
 unfolding sized
-sized-says room b h k o t x e l =
-    let p = both_true (leb room 64) _ (sym e ∙ not-no x l) in
+sized-says room b h k o t e =
+    let p = both_true (leb room 64) _ e in
     let q = both_true (eqb b 304) _ p.1 in
     let r = both_true (eqb h (8 * hist_size room)) _ q.1 in
     let u = both_true (eqb k (8 * hist_size room)) _ r.1 in
     let v = both_true (leb (8 * box_size room) o) _ u.1 in
-    let w = both_true (eqb (o % 8) 0) _ v.1 in
-    record { most = leb-true room 64 p.0; rec = eqb-true b 304 q.0; hist = eqb-true h _ r.0; cand = eqb-true k _ u.0; box = leb-true _ o v.0; told = eqb-true t 2 w.1 }
+    record { most = leb-true room 64 p.0; rec = eqb-true b 304 q.0; hist = eqb-true h _ r.0; cand = eqb-true k _ u.0; box = leb-true _ o v.0 }
 
 lent-few : (event room m : ℕ) → room ≤ 64 → slotted event room m ≡ true → (8 * lent_words event room ≤ m) × (lent_words event room ≤ 132)
 unfolding slotted lent_words pick
@@ -127,77 +112,50 @@ lent-few event room m h e = ⊎_elim
     (λ (i : event ≢ 3). rw (ne_eqb event 3 i) (omega arith, omega arith))
     (eq-or event 3)
 
-pub is-lent : (event room lent : ℕ) (b h k m o t : List ℕ) (x y : Bool)
-    → x ≡ sized room (length b) (length h) (length k) (length o) (length t) → not x ≡ false
-    → y ≡ slotted event room (length m) → not y ≡ false → lent ≡ lent_words event room → Lent room lent h k m o
-is-lent event room lent b h k m o t x y ex lx ey ly e =
-    let z = sized-says room _ _ _ _ _ x ex lx in
-    let f = lent-few event room (length m) z.most (sym ey ∙ not-no y ly) in
-    record { most = z.most; hist = z.hist; cand = z.cand; msg = rw e f.0; few = rw e f.1; box = z.box }
+-- ---- the step taken or refused, where lengths and record fit
 
--- ---- the returns
+module _ (room event : ℕ) (b h k m o t : List ℕ) (x : sized room (length b) (length h) (length k) (length o) (length t) ≡ true)
+    (y : slotted event room (length m) ≡ true) (lent : ℕ) (el : lent ≡ lent_words event room) where
+  pub is-lent : Lent room lent h k m o
+  is-lent =
+      let z = sized-says room _ _ _ _ _ x in
+      let f = lent-few event room (length m) z.most y in
+      record { most = z.most; hist = z.hist; cand = z.cand; msg = rw el f.0; few = rw el f.1; box = z.box }
 
-told-two : (t : List ℕ) (x y : ℕ) → length t ≡ 2 → set (set t 0 x) 1 y ≡ x ∷ y ∷ []
-told-two [] x y e = absurd (omega arith)
-told-two (a ∷ []) x y e = absurd (omega arith)
-told-two (a ∷ b ∷ []) x y e = refl
-told-two (a ∷ b ∷ c ∷ t) x y e = absurd (omega arith)
-
-record-words : (b w : List ℕ) → w ≡ words_of 38 b ++ drop 38 (replicate 38 0) → w ≡ words_of 38 b
-record-words b w e = e ∙ append-nil (words_of 38 b)
-
-module _ (n room event who value : ℕ) (b h k m o t : List ℕ) (x : Bool) (ex : x ≡ sized room (length b) (length h) (length k) (length o) (length t)) where
-  pub bad-size : not x ≡ true → Does (zab_of n room event who value b h k m o t) 1 b h k o t
-  unfolding zab_of pick both
-  bad-size l = rw (← ex, not_is x l) (record { code = refl; rec = refl; hist = refl; cand = refl; box = refl; told = refl })
-
-  module _ (lx : not x ≡ false) (y : Bool) (ey : y ≡ slotted event room (length m)) where
-    pub bad-slot : not y ≡ true → Does (zab_of n room event who value b h k m o t) 1 b h k o t
+  module _ (n who value : ℕ) (w : List ℕ) (ew : w ≡ words_of 38 b ++ drop 38 (replicate 38 0)) (v : fits w ≡ true) (s : State) (es : s ≡ state_at w) (e : Event) (ee : e ≡ event_of event who value)
+      (a : Reply) (h' k' o' : List ℕ) (d : Steps (word_step (sizes n room) s e lent h k m o) a h k o h' k' o') where
+    past : zab_of n room event who value b h k m o t ≡ answered (word_step (sizes n room) s e lent h k m o) b h k o t
     unfolding zab_of pick both
-    bad-slot l = rw (← ex, not-no x lx, ← ey, not_is y l) (record { code = refl; rec = refl; hist = refl; cand = refl; box = refl; told = refl })
+    past =
+        let q : words_of 38 b ≡ w = sym (ew ∙ append-nil (words_of 38 b)) in
+        rw (x, y, q, v, ← es, ← ee, ← el)
 
-    module _ (ly : not y ≡ false) (w : List ℕ) (ew : w ≡ words_of 38 b ++ drop 38 (replicate 38 0)) (v : Bool) (ev : v ≡ fits w) where
-      pub bad-record : not v ≡ true → Does (zab_of n room event who value b h k m o t) 1 b h k o t
-      unfolding zab_of pick both
-      bad-record l =
-          let f : fits (words_of 38 b) ≡ false = ap fits (sym (record-words b w ew)) ∙ sym ev ∙ not_is v l in
-          rw (← ex, not-no x lx, ← ey, not-no y ly, f) (record { code = refl; rec = refl; hist = refl; cand = refl; box = refl; told = refl })
+    -- the count is a byte
+    pub count_fits : a.sent < 256
+    count_fits = omega (arith, d.sent, sent-few (sizes n room) s e (words_of (hist_size room) h) (words_of (hist_size room) k) (words_of lent m) (words_of (box_size room) o))
 
-      module _ (lv : not v ≡ false) (s : State) (es : s ≡ state_at w) (e : Event) (ee : e ≡ event_of event who value) (lent : ℕ) (el : lent ≡ lent_words event room)
-          (a : Answer) (h' k' o' : List ℕ) (d : Steps (word_step (sizes n room) s e lent h k m o) a h k o h' k' o') where
-        past : zab_of n room event who value b h k m o t ≡ answered (word_step (sizes n room) s e lent h k m o) b h k o t
-        unfolding zab_of pick both
-        past =
-            let f : fits (words_of 38 b) ≡ true = ap fits (sym (record-words b w ew)) ∙ sym ev ∙ not-no v lv in
-            let g : state_at (words_of 38 b) ≡ s = ap state_at (sym (record-words b w ew)) ∙ sym es in
-            rw (← ex, not-no x lx, ← ey, not-no y ly, f, g, ← ee, ← el)
+    pub refused : a.code ≢ 0 → Does (zab_of n room event who value b h k m o t) a.code b h' k' o' t
+    unfolding answered pick
+    refused c =
+        let u : eqb (word_step (sizes n room) s e lent h k m o).code 0 ≡ false = ne_eqb _ 0 (λ q. c (d.code ∙ q)) in
+        rw (past, u) (record { code = d.code; rec = refl; hist = rw u at d.hist; cand = rw u at d.cand; box = rw u at d.box; told = refl })
 
-        -- the count is a byte
-        pub count_fits : a.sent < 256
-        count_fits = omega (arith, d.sent, sent-few (sizes n room) s e (words_of (hist_size room) h) (words_of (hist_size room) k) (words_of lent m) (words_of (box_size room) o))
-
-        pub refused : a.code ≢ 0 → Does (zab_of n room event who value b h k m o t) a.code b h' k' o' t
-        unfolding answered pick
-        refused c =
-            let u : eqb (word_step (sizes n room) s e lent h k m o).code 0 ≡ false = ne_eqb _ 0 (λ q. c (d.code ∙ q)) in
-            rw (past, u) (record { code = d.code; rec = refl; hist = rw u at d.hist; cand = rw u at d.cand; box = rw u at d.box; told = refl })
-
-        pub done : (w' b' : List ℕ) (z : ℕ) → a.code ≡ 0 → w' ≡ state_words a.state → length w' ≡ 38 → b' ≡ bytes_of (take 38 w') ++ drop 304 b → z ≡ bit a.empties
-            → Does (zab_of n room event who value b h k m o t) 0 b' h' k' o' (set (set t 0 a.sent) 1 z)
-        unfolding answered pick
-        done w' b' z c ew' lw eb ez =
-            let i = sized-says room _ _ _ _ _ x ex lx in
-            let u : eqb (word_step (sizes n room) s e lent h k m o).code 0 ≡ true = eq-eqb _ 0 (sym d.code ∙ c) in
-            let r : b' ≡ bytes_of (state_words (word_step (sizes n room) s e lent h k m o).state) =
-            eb ∙ rw (drop_of_length-le b {i = 304} (omega arith), take_all 38 w' (omega arith)) (append-nil (bytes_of w')) ∙ ap bytes_of ew' ∙ ap (λ (q : State). bytes_of (state_words q)) d.state in
-            rw (past, u) (record {
-              code = refl;
-              rec = r;
-              hist = rw u at d.hist;
-              cand = rw u at d.cand;
-              box = rw u at d.box;
-              told = told-two t a.sent z i.told ∙ rw (ez, d.sent, d.empties);
-            })
+    pub done : (w' b' t' : List ℕ) (z : ℕ) → a.code ≡ 0 → w' ≡ state_words a.state → length w' ≡ 38 → b' ≡ bytes_of (take 38 w') ++ drop 304 b → z ≡ from_bool a.empties
+        → t' ≡ a.sent ∷ z ∷ [] → Does (zab_of n room event who value b h k m o t) 0 b' h' k' o' t'
+    unfolding answered pick
+    done w' b' t' z c ew' lw eb ez et =
+        let i = sized-says room _ _ _ _ _ x in
+        let u : eqb (word_step (sizes n room) s e lent h k m o).code 0 ≡ true = eq-eqb _ 0 (sym d.code ∙ c) in
+        let r : b' ≡ bytes_of (state_words (word_step (sizes n room) s e lent h k m o).state) =
+        eb ∙ rw (drop_of_length-le b {i = 304} (omega arith), take_all 38 w' (omega arith)) (append-nil (bytes_of w')) ∙ ap bytes_of ew' ∙ ap (λ (q : State). bytes_of (state_words q)) d.state in
+        rw (past, u) (record {
+          code = refl;
+          rec = r;
+          hist = rw u at d.hist;
+          cand = rw u at d.cand;
+          box = rw u at d.box;
+          told = et ∙ rw (ez, bit-from a.empties, d.sent, d.empties);
+        })
 
 -- two results that meet the statement are equal, and so is every byte
 pub one-result : (x : After) (r r' : ℕ) (b h k o t b' h' k' o' t' : List ℕ) → Does x r b h k o t → Does x r' b' h' k' o' t'

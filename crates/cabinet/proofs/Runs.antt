@@ -1,27 +1,34 @@
 -- Laws of the exported run: the cluster's struct in words, and one law for each return.
 use Prim.Native.Nat.{ℕ, suc, ◌+◌, ◌-◌, ◌*◌, ◌≤◌, ◌<◌}
-use mathlib.Core.Path.{◌≡◌, refl, sym, ap, ◌∙◌}
-use mathlib.Core.Logic.{◌≢◌, ⊎_elim}
+use mathlib.Core.Path.{◌≡◌, refl, sym, ap, subst, ◌∙◌}
 use mathlib.Core.Bool.{Bool, true, false}
 use mathlib.Core.List.{List, [], ◌∷◌, ◌++◌, append_assoc, append-nil}
 use native.Mathlib.Omega.{arith}
 use native.Mathlib.Numerals.{add-one}
 use lib.Dec.{eqb, leb}
-use lib.ListN.{length, take, drop, get_or, set, length-append, length-drop, drop_of_length-le}
-use lib.Seq.{drop-cons, set_at, append_snoc, take-suc, length-take-le, take_all, get_or-drop, get_or-take}
-use borrow.Author.Tests.{eqb-true, leb-true, eq-eqb, ne_eqb, le-leb, lt-leb}
+use lib.ListN.{length, take, drop, get_or, length-append, length-drop, drop_of_length-le}
+use lib.Seq.{take-suc, length-take-le, take_all, get_or-drop, get_or-take}
+use borrow.Author.Tests.{eqb-true, leb-true}
 use borrow.Rule.Slice.PartMut.{put_mid}
+use Rattle.std.specs.Array.{list_steps}
+use Rattle.std.specs.Bool.{MatchBool}
+use Rattle.std.specs.Prelude.{Err}
+use Rattle.std.specs.Iterator.{Yields, CallableAtEachTurn}
+use Rattle.std.specs.List.{AllWithin, HoldsAt, range_with_len}
+use Rattle.std.proofs.lemmas.List.FromFn.{get_or-range_with_len}
 use Rattle.base.specs.Choice.{pick, both, all_below}
-use Rattle.base.specs.Refusals.{STATE}
+use Rattle.base.specs.Refusals.{number, code_of, STATE}
+use Rattle.base.specs.declared.Refusal.{Refusal}
 use Rattle.base.specs.Transaction.{LAST}
-use Rattle.base.proofs.Choice.{both_true, clash, case, eq-or, all-at, all_of}
+use Rattle.base.proofs.Choice.{both_true, clash, case, all-at, all_of}
+use Rattle.base.proofs.Refusals.{number-not, code-err}
 use Rattle.rules.specs.declared.State.{State}
 use Rattle.rules.specs.Cluster.{Event}
 use Rattle.rules.specs.Words.{tab, put}
 use Rattle.rules.proofs.Words.{mid-put, put-put}
 use Rattle.octets.specs.Bytes.{under, BYTE}
 use Rattle.octets.specs.Record.{state_words, state_at}
-use Rattle.octets.proofs.Laws.{under_of, part_at, put-more, put-none}
+use Rattle.octets.proofs.Laws.{under_of, part_at, put-none}
 use Rattle.site.specs.declared.Cluster.{Cluster}
 use Rattle.runs.specs.declared.Ran.{Ran}
 use Rattle.site.specs.Site.{Site, site_of, none}
@@ -34,46 +41,14 @@ use Rattle.cabinet.specs.Run.{record_place, record_words, record_fits, ring_word
 pub record-part : (w : List ℕ) (i : ℕ) → take (5 + 38 * i + 38 - (5 + 38 * i)) (drop (5 + 38 * i) w) ≡ record_words w i
 record-part w i = let e : 5 + 38 * i + 38 - (5 + 38 * i) ≡ 38 = omega arith in ap (λ (n : ℕ). take n (drop (5 + 38 * i) w)) e
 
--- the records below i fit
-abbrev pub FitTo : List ℕ → ℕ → Type 0
-FitTo w i = (j : ℕ) → j < i → record_fits w j ≡ true
-
-pub records-not : (w : List ℕ) (i : ℕ) (b : Bool) → i < 7 → b ≡ record_fits w i → b ≡ false → false ≡ all_below 7 (record_fits w)
-records-not w i b l e f = case (all_below 7 (record_fits w)) (λ t. clash (all-at 7 (record_fits w) t i l) (sym e ∙ f)) (λ t. sym t)
-
-pub records-on : (w : List ℕ) (i : ℕ) (b : Bool) → FitTo w i → b ≡ record_fits w i → b ≡ true → FitTo w (i + 1)
-records-on w i b s e t j l = ⊎_elim (λ (x : j ≡ i). rw x (sym e ∙ t)) (λ (n : j ≢ i). s j (omega arith)) (eq-or j i)
-
-pub records-all : (w : List ℕ) (i : ℕ) → FitTo w i → 7 ≤ i → true ≡ all_below 7 (record_fits w)
-records-all w i s l = sym (all_of 7 (record_fits w) (λ j m. s j (omega arith)))
-
--- one law for each test of the struct's words
-module _ (w : List ℕ) where
-  pub unfit-size : length w ≢ 369 → false ≡ held_fits w
-  unfolding held_fits both
-  unfit-size n = rw (ne_eqb (length w) 369 n)
-
-  module _ (l : length w ≡ 369) where
-    pub unfit-n : 255 < get_or w 0 0 → false ≡ held_fits w
-    unfolding held_fits both
-    unfit-n a = rw (eq-eqb (length w) 369 l, lt-leb (get_or w 0 0) 255 a)
-
-    pub unfit-room : get_or w 0 0 ≤ 255 → 4294967295 < get_or w 1 0 → false ≡ held_fits w
-    unfolding held_fits both
-    unfit-room a b = rw (eq-eqb (length w) 369 l, le-leb (get_or w 0 0) 255 a, lt-leb (get_or w 1 0) 4294967295 b)
-
-    pub unfit-depth : get_or w 0 0 ≤ 255 → get_or w 1 0 ≤ 4294967295 → 255 < get_or w 2 0 → false ≡ held_fits w
-    unfolding held_fits both
-    unfit-depth a b c = rw (eq-eqb (length w) 369 l, le-leb (get_or w 0 0) 255 a, le-leb (get_or w 1 0) 4294967295 b, lt-leb (get_or w 2 0) 255 c)
-
-    pub unfit-records : (r : Bool) → get_or w 0 0 ≤ 255 → get_or w 1 0 ≤ 4294967295 → get_or w 2 0 ≤ 255 → r ≡ all_below 7 (record_fits w) → r ≡ false → false ≡ held_fits w
-    unfolding held_fits both
-    unfit-records r a b c e f = rw (eq-eqb (length w) 369 l, le-leb (get_or w 0 0) 255 a, le-leb (get_or w 1 0) 4294967295 b, le-leb (get_or w 2 0) 255 c, ← e, f)
-
-    pub fit-rings : (r x : Bool) → get_or w 0 0 ≤ 255 → get_or w 1 0 ≤ 4294967295 → get_or w 2 0 ≤ 255 → r ≡ all_below 7 (record_fits w) → r ≡ true
-        → x ≡ under 255 (take 98 (drop 271 w)) → x ≡ held_fits w
-    unfolding held_fits both
-    fit-rings r x a b c e f g = rw (eq-eqb (length w) 369 l, le-leb (get_or w 0 0) 255 a, le-leb (get_or w 1 0) 4294967295 b, le-leb (get_or w 2 0) 255 c, ← e, f) g
+-- what `all` says of the seven records
+pub records-said : (w : List ℕ) (b : Bool)
+    → MatchBool b (AllWithin (λ i. record_fits w i ≡ true) (range_with_len 0 7) 0 (length (range_with_len 0 7))) ((k : ℕ) × (k < length (range_with_len 0 7)) × HoldsAt (λ i. record_fits w i ≡ false) (range_with_len 0 7) k)
+    → b ≡ all_below 7 (record_fits w)
+records-said w true h = sym (all_of 7 (record_fits w) (λ i m. let e : get_or (range_with_len 0 7) i 0 ≡ i = omega (arith, get_or-range_with_len 0 7 i 0 m) in rw e at (h i 0 (omega arith) m)))
+records-said w false (k, m, h) =
+    let e : get_or (range_with_len 0 7) k 0 ≡ k = omega (arith, get_or-range_with_len 0 7 k 0 m) in
+    case (all_below 7 (record_fits w)) (λ t. clash (all-at 7 (record_fits w) t k m) (rw e at (h 0))) (λ t. sym t)
 
 -- every word of the struct within its field, as facts
 pub record Fit (w : List ℕ) : Type 0 where
@@ -112,30 +87,16 @@ fit_of w e =
 
 -- ---- a byte of each ring
 
-pub ring-start : (w z : List ℕ) (at : ℕ) → z ≡ take 0 (drop at w) ++ drop 0 z
-ring-start w z at = refl
+-- an item of the list comes each time
+item : (xs s t u : List ℕ) (x : ℕ) → Yields list_steps s xs t → t ≡ x ∷ u → (i : ℕ) × (i < length s) × (get_or s i 0 ≡ x)
+item [] s t u x y e = (0, rw (y ∙ e) (omega arith), rw (y ∙ e))
+item (z ∷ xs) s t u x y e =
+    let r = item xs y.0 t u x y.2 e in
+    (suc r.0, rw y.1 (omega (arith, r.1)), rw y.1 r.2)
 
-pub ring-turn : (w z q : List ℕ) (at i x : ℕ) → at + 49 ≤ length w → length z ≡ 49 → i < 49 → q ≡ take i (drop at w) ++ drop i z → x ≡ get_or w (at + i) 0
-    → set q i x ≡ take (i + 1) (drop at w) ++ drop (i + 1) z
-ring-turn w z q at i x h l m e v =
-    let D = drop at w in
-    let n : i < length D = omega (arith, length-drop at w) in
-    let y : x ≡ get_or D i 0 = v ∙ sym (get_or-drop at w i 0) in
-    rw (e, y, add-one i, take-suc D i 0 n, drop-cons z i 0 (omega arith))
-    (set_at (take i D) (get_or z i 0) (drop (suc i) z) (get_or D i 0) i (length-take-le i D (omega arith))
-    ∙ sym (append_snoc (take i D) (get_or D i 0) (drop (suc i) z)))
-
-pub ring-end : (w z q : List ℕ) (at i : ℕ) → length z ≡ 49 → i ≡ 49 → q ≡ take i (drop at w) ++ drop i z → q ≡ ring_words w at
-ring-end w z q at i l m e =
-    e ∙ rw (m, drop_of_length-le z {i = 49} (omega arith)) (append-nil (take 49 (drop at w)))
-
-pub ring-put : (w₀ w q : List ℕ) (at i : ℕ) → at + 49 ≤ length w₀ → i < 49 → length q ≡ 49 → w ≡ put w₀ at (take i q) → set w (at + i) (get_or q i 0) ≡ put w₀ at (take (i + 1) q)
-ring-put w₀ w q at i h l m e =
-    rw (e, add-one i, take-suc q i 0 (omega arith))
-    (put-more w₀ (take i q) at i (get_or q i 0) (length-take-le i q (omega arith)) (omega arith))
-
-pub ring-put-end : (w₀ w q : List ℕ) (at i : ℕ) → i ≡ 49 → length q ≡ 49 → w ≡ put w₀ at (take i q) → w ≡ put w₀ at q
-ring-put-end w₀ w q at i l m e = e ∙ ap (put w₀ at) (take_all i q (omega arith))
+-- what is right of each item may be called on all
+pub serves : {F : Type 0} (R : F → ℕ → F → Type 0) (Q : F → ℕ → Type 0) (f : F) (s : List ℕ) → ((q : F) (i : ℕ) → i < length s → Q q (get_or s i 0)) → CallableAtEachTurn list_steps R Q s f
+serves R Q f s h = record { at = λ xs t q x u y c e. let r = item xs s t u x y e in subst (Q q) r.2 (h q r.0 r.1) }
 
 -- ---- words put one after the other
 
@@ -214,27 +175,21 @@ held-written c met taken w w₁ w₂ w₃ w₄ l lh lc e₁ e₂ e₃ e₄ =
 
 -- ---- the struct read
 
-pub read_all : (w : List ℕ) (a b c d e f g : State) (heads counts : List ℕ) (n room depth : ℕ)
-    → a ≡ state_at (record_words w 0) → b ≡ state_at (record_words w 1) → c ≡ state_at (record_words w 2) → d ≡ state_at (record_words w 3)
-    → e ≡ state_at (record_words w 4) → f ≡ state_at (record_words w 5) → g ≡ state_at (record_words w 6) → heads ≡ ring_words w 271 → counts ≡ ring_words w 320
+pub read_all : (w : List ℕ) (ss : List State) (heads counts : List ℕ) (n room depth : ℕ)
+    → ss ≡ tab 7 (λ i. state_at (record_words w i)) → heads ≡ ring_words w 271 → counts ≡ ring_words w 320
     → n ≡ get_or w 0 0 → room ≡ get_or w 1 0 → depth ≡ get_or w 2 0
-    → ◌≡◌ {A = Cluster} (record { sizes = sizes n room; depth = depth; servers = a ∷ b ∷ c ∷ d ∷ e ∷ f ∷ g ∷ []; rings = record { heads = heads; counts = counts } }) (cluster_at w)
-unfolding cluster_at tab
-read_all w a b c d e f g heads counts n room depth pa pb pc pd pe pf pg ph pk pn pr px = λ i. record {
+    → ◌≡◌ {A = Cluster} (record { sizes = sizes n room; depth = depth; servers = ss; rings = record { heads = heads; counts = counts } }) (cluster_at w)
+unfolding cluster_at
+read_all w ss heads counts n room depth ps ph pk pn pr px = λ i. record {
   sizes = sizes (pn i) (pr i);
   depth = px i;
-  servers = pa i ∷ pb i ∷ pc i ∷ pd i ∷ pe i ∷ pf i ∷ pg i ∷ [];
+  servers = ps i;
   rings = record { heads = ph i; counts = pk i };
 }
 
 -- ---- the run
 
 module _ (w h k q o es : List ℕ) (budget : ℕ) where
-  pub run-unfit : (b : Bool) → b ≡ held_fits w → b ≡ false → Finishes (run_of w h k q o es budget) 1 w h k q o
-  unfolding run_of both pick
-  run-unfit b e f = let n : held_fits w ≡ false = sym e ∙ f in
-      rw n (record { code = refl; held = refl; hists = refl; cands = refl; queue = refl; box = refl })
-
   -- where the struct's words fit, the run is refused exactly if the cluster's is
   run-fit : held_fits w ≡ true → run_of w h k q o es budget ≡ pick (may_run (cluster_at w) h k q o es) (ran (cluster_at w) (site_of (cluster_at w) h k q o) (events_of (cluster_at w).sizes es budget)) (halts STATE w h k q o)
   unfolding run_of both
@@ -242,12 +197,12 @@ module _ (w h k q o es : List ℕ) (budget : ℕ) where
 
   -- what a refused run of the cluster left, and what one that was not refused did
   module _ (c : Cluster) (t : Ran) (h' k' q' o' : List ℕ) where
-    halted : (ok : Bool) (x : Finish) (ev : List Event) → Runs c ok ev h k q o t h' k' q' o' → t.code ≢ 0
-        → Finishes (pick ok x (halts STATE w h k q o)) t.code w h' k' q' o'
+    halted : (ok : Bool) (x : Finish) (ev : List Event) (why : Refusal) → Runs c ok ev h k q o t h' k' q' o' → t.answer ≡ Err why
+        → Finishes (pick ok x (halts STATE w h k q o)) (number why) w h' k' q' o'
     unfolding pick
-    halted true x ev r z = absurd (z r.code)
-    halted false x ev r z = record {
-      code = r.code;
+    halted true x ev why r z = absurd (number-not why (sym (code-err t.answer why z) ∙ r.code))
+    halted false x ev why r z = record {
+      code = sym (code-err t.answer why z) ∙ r.code;
       held = refl;
       hists = ap (λ (s : Site). s.hists) r.site;
       cands = ap (λ (s : Site). s.cands) r.site;
@@ -255,7 +210,7 @@ module _ (w h k q o es : List ℕ) (budget : ℕ) where
       box = ap (λ (s : Site). s.box) r.site;
     }
 
-    went : (ok : Bool) (x : Finish) (ev : List Event) (w' : List ℕ) → Runs c ok ev h k q o t h' k' q' o' → t.code ≡ 0 → w' ≡ held_of t.cluster t.met t.taken
+    went : (ok : Bool) (x : Finish) (ev : List Event) (w' : List ℕ) → Runs c ok ev h k q o t h' k' q' o' → code_of t.answer ≡ 0 → w' ≡ held_of t.cluster t.met t.taken
         → Finishes (pick ok (ran c (site_of c h k q o) ev) x) 0 w' h' k' q' o'
     unfolding ran pick
     went true x ev w' r z e = record {
@@ -266,15 +221,15 @@ module _ (w h k q o es : List ℕ) (budget : ℕ) where
       queue = ap (λ (s : Site). s.queue) r.site;
       box = ap (λ (s : Site). s.box) r.site;
     }
-    went false x ev w' r z e = let y : t.code ≡ 1 = r.code in absurd (omega arith)
+    went false x ev w' r z e = let y : code_of t.answer ≡ 1 = r.code in absurd (omega arith)
 
-    pub run-refused : (b : Bool) (ev : List Event) → b ≡ held_fits w → b ≡ true → c ≡ cluster_at w → Runs c (may_run c h k q o es) ev h k q o t h' k' q' o' → t.code ≢ 0
-        → Finishes (run_of w h k q o es budget) t.code w h' k' q' o'
-    run-refused b ev f y e r z = rw (run-fit (sym f ∙ y), ← e) (halted (may_run c h k q o es) _ ev r z)
+    pub run-refused : (ev : List Event) (why : Refusal) → held_fits w ≡ true → c ≡ cluster_at w → Runs c (may_run c h k q o es) ev h k q o t h' k' q' o' → t.answer ≡ Err why
+        → Finishes (run_of w h k q o es budget) (number why) w h' k' q' o'
+    run-refused ev why f e r z = rw (run-fit f, ← e) (halted (may_run c h k q o es) _ ev why r z)
 
-    pub run-done : (b : Bool) (w' : List ℕ) → b ≡ held_fits w → b ≡ true → c ≡ cluster_at w → Runs c (may_run c h k q o es) (events_of c.sizes es budget) h k q o t h' k' q' o' → t.code ≡ 0
+    pub run-done : (w' : List ℕ) → held_fits w ≡ true → c ≡ cluster_at w → Runs c (may_run c h k q o es) (events_of c.sizes es budget) h k q o t h' k' q' o' → code_of t.answer ≡ 0
         → w' ≡ held_of t.cluster t.met t.taken → Finishes (run_of w h k q o es budget) 0 w' h' k' q' o'
-    run-done b w' f y e r z x = rw (run-fit (sym f ∙ y), ← e) (went (may_run c h k q o es) _ (events_of c.sizes es budget) w' r z x)
+    run-done w' f e r z x = rw (run-fit f, ← e) (went (may_run c h k q o es) _ (events_of c.sizes es budget) w' r z x)
 
 -- two results that meet the statement are equal, and so is every word
 pub one-finish : (x : Finish) (r r' : ℕ) (w h k q o w' h' k' q' o' : List ℕ) → Finishes x r w h k q o → Finishes x r' w' h' k' q' o'

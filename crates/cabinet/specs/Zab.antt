@@ -7,10 +7,9 @@ use Rattle.rules.specs.declared.State.{State}
 use Rattle.rules.specs.Words.{WORDS, msg_size, slot_size, put}
 use Rattle.octets.specs.Bytes.{words_of, bytes_of}
 use Rattle.octets.specs.Record.{RECORD, bit, state_words, state_at, fits}
-use Rattle.server.specs.declared.Answer.{Answer}
 use Rattle.server.specs.declared.Event.{Event}
 use Rattle.server.specs.declared.Event.TheVariants.{Oracle, Restart, Deliver, Submit, Unknown}
-use Rattle.server.specs.Whole.{Out, step_of}
+use Rattle.server.specs.Whole.{Out, step_of, Reply}
 
 -- the words of a history, and of the outbox that is looked at: six slots
 abbrev pub hist_size : ℕ → ℕ
@@ -108,7 +107,7 @@ pub record Lent (room lent : ℕ) (h k m o : List ℕ) : Type 0 where
   pub box : 8 * box_size room ≤ length o
 
 -- the answer of the server's step x, and the bytes after it
-pub record Steps (x : Out) (a : Answer) (h k o h' k' o' : List ℕ) : Type 0 where
+pub record Steps (x : Out) (a : Reply) (h k o h' k' o' : List ℕ) : Type 0 where
   pub code : a.code ≡ x.code
   pub sent : a.sent ≡ x.sent
   pub empties : a.empties ≡ x.empties

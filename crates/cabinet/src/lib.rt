@@ -5,86 +5,78 @@ mod run;
 
 ghost use Rattle.std.specs.Prelude.{◌≡◌, [], ◌∷◌, ◌*◌, ◌≤◌, length};
 ghost use Rattle.octets.specs.Bytes.{words_of, bytes_of};
-ghost use Rattle.octets.specs.Record.{bit};
+ghost use Rattle.server.specs.Whole.{reply};
 ghost use Rattle.trace.specs.Meaning.{meant, verdict};
 ghost use Rattle.cabinet.specs.Trace.{check_of, Judges};
 ghost use Rattle.cabinet.specs.Zab.{sized, slotted, lent_words, event_of, Lent, word_step, Steps, zab_of, Does};
 
-use base::{Place, Sizes};
+use base::{Place, Refusal, Sizes};
+use octets::RECORD_LEN;
 use rules::State;
 pub use run::zab_run;
 use server::{Answer, Event};
 use trace::Verdict;
 
+// The number of the event that delivers a message.
+const DELIVER: u8 = 3;
+
+// The most transactions that a history has room for; and the words of such a history, of a message and of six slots.
+const MOST_ROOM: usize = 64;
+
+const HISTORY_LEN: usize = 2 * MOST_ROOM;
+
+const MESSAGE_LEN: usize = 4 + HISTORY_LEN;
+
+const OUTBOX_LEN: usize = 6 * (1 + MESSAGE_LEN);
+
+// The most words of a trace, and the words that the checker works in.
+const TRACE_LEN: usize = 5120;
+
+const SPACE_LEN: usize = 4096;
+
 // The event that a number names.
+#[tactic(auto, unfolding(crate::specs::Zab::event_of, base::specs::Choice::pick))]
 fn event_of(event: u8, who: u8, value: u64) -> Event
     ensures { result ≡ event_of event who value }
 {
-    if event == 1 {
-        return Event::Oracle(who);
+    match event {
+        1 => Event::Oracle(who),
+        2 => Event::Restart,
+        DELIVER => Event::Deliver(who),
+        4 => Event::Submit(value),
+        _ => Event::Unknown,
     }
-    if event == 2 {
-        return Event::Restart;
-    }
-    if event == 3 {
-        return Event::Deliver(who);
-    }
-    if event == 4 {
-        return Event::Submit(value);
-    }
-    Event::Unknown
 }
 
 // How many words of the message an event reads.
+#[tactic(auto, unfolding(crate::specs::Zab::lent_words, base::specs::Choice::pick))]
 fn lent_words(event: u8, room: usize) -> usize
     requires { room ≤ 64 }
     ensures { result ≡ lent_words event room }
 {
-    if event == 3 {
-        return 4 + 2 * room;
-    }
-    0
+    if event == DELIVER { 4 + 2 * room } else { 0 }
 }
 
 // Are the lent slices of the right lengths? The message has its own test.
+#[tactic(auto, unfolding(crate::specs::Zab::sized, base::specs::Choice::both))]
 fn sizes_fit(room: usize, rec: usize, hist: usize, cand: usize, out: usize, told: usize) -> bool
     ensures { result ≡ sized room rec hist cand out told }
 {
-    if 64 < room {
-        return false;
-    }
-    if rec != 304 {
-        return false;
-    }
-    if hist != 8 * (2 * room) {
-        return false;
-    }
-    if cand != 8 * (2 * room) {
-        return false;
-    }
-    if out < 8 * (6 * (5 + 2 * room)) {
-        return false;
-    }
-    if out % 8 != 0 {
-        return false;
-    }
-    told == 2
+    room <= MOST_ROOM
+        && rec == 8 * RECORD_LEN
+        && hist == 8 * (2 * room)
+        && cand == 8 * (2 * room)
+        && out >= 8 * (6 * (5 + 2 * room))
+        && out % 8 == 0
+        && told == 2
 }
 
+#[tactic(auto, unfolding(crate::specs::Zab::slotted, base::specs::Choice::pick))]
 fn slot_fits(event: u8, room: usize, msg: usize) -> bool
     requires { room ≤ 64 }
     ensures { result ≡ slotted event room msg }
 {
-    if event == 3 {
-        return msg == 8 * (4 + 2 * room);
-    }
-    true
-}
-
-fn bit_byte(b: bool) -> u8
-    ensures { result ≡ bit b }
-{
-    if b { 1 } else { 0 }
+    event != DELIVER || msg == 8 * (4 + 2 * room)
 }
 
 // A step on bytes of the right lengths. On a refusal nothing is written.
@@ -97,22 +89,22 @@ fn step_bytes(
     cand: &mut [u8],
     msg: &[u8],
     out: &mut [u8],
-) -> Answer
+) -> Result<Answer, Refusal>
     requires { Lent z.room.0 lent hist.old cand.old msg.now out.old }
-    ensures { Steps (word_step z s ev lent hist.old cand.old msg.now out.old) result hist.old cand.old out.old hist.new cand.new out.new }
+    ensures { Steps (word_step z s ev lent hist.old cand.old msg.now out.old) (reply s result) hist.old cand.old out.old hist.new cand.new out.new }
 {
     let room = z.room.0 as usize;
     let n = 2 * room;
     let k = 6 * (5 + 2 * room);
-    let mut h = [0u64; 128];
-    let mut c = [0u64; 128];
-    let mut m = [0u64; 132];
-    let mut o = [0u64; 798];
+    let mut h = [0u64; HISTORY_LEN];
+    let mut c = [0u64; HISTORY_LEN];
+    let mut m = [0u64; MESSAGE_LEN];
+    let mut o = [0u64; OUTBOX_LEN];
     octets::load(hist, &mut h, n);
     octets::load(cand, &mut c, n);
     octets::load(msg, &mut m, lent);
     octets::load(out, &mut o, k);
-    let a = server::step(
+    let answer = server::step(
         z,
         s,
         &mut h[0..n],
@@ -120,17 +112,15 @@ fn step_bytes(
         ev,
         &m[0..lent],
         &mut o[0..k],
-    );
-    if a.code != 0 {
-        return a;
-    }
+    )?;
     octets::save(&h, hist, n);
     octets::save(&c, cand, n);
     octets::save(&o, out, k);
-    a
+    Ok(answer)
 }
 
 // The step of a server on lent bytes: 0, or the refusal's number, and then every byte is as it was.
+#[tactic(auto, unfolding(crate::specs::Zab::sized, base::specs::Choice::both))]
 pub fn zab_step(
     n: u8,
     room: u32,
@@ -155,15 +145,15 @@ pub fn zab_step(
         out.len(),
         told.len(),
     ) {
-        return 1;
+        return u8::from(Refusal::State);
     }
     if !slot_fits(event, r, msg.len()) {
-        return 1;
+        return u8::from(Refusal::State);
     }
-    let mut w = [0u64; 38];
-    octets::load(record, &mut w, 38);
+    let mut w = [0u64; RECORD_LEN];
+    octets::load(record, &mut w, RECORD_LEN);
     if !octets::record_fits(&w) {
-        return 1;
+        return u8::from(Refusal::State);
     }
     let s = octets::read_state(&w);
     let z = Sizes {
@@ -172,17 +162,15 @@ pub fn zab_step(
     };
     let ev = event_of(event, who, value);
     let lent = lent_words(event, r);
-    let a = step_bytes(z, s, ev, lent, hist, cand, msg, out);
-    let code = a.code;
-    if code != 0 {
-        return code;
+    match step_bytes(z, s, ev, lent, hist, cand, msg, out) {
+        Ok(a) => {
+            octets::write_state(&mut w, a.state);
+            octets::save(&w, record, RECORD_LEN);
+            told.copy_from_slice(&[a.sent as u8, u8::from(a.empties)]);
+            0
+        }
+        Err(why) => u8::from(why),
     }
-    let t = a.state;
-    octets::write_state(&mut w, t);
-    octets::save(&w, record, 38);
-    told[0] = a.sent as u8;
-    told[1] = bit_byte(a.empties);
-    0
 }
 
 // What the checker says of the first k words of the bytes.
@@ -190,8 +178,8 @@ fn verdict_of(n: u32, recs: &[u8], k: usize) -> Verdict
     requires { (8 * k ≤ length recs.now) × (k ≤ 5120) }
     ensures { meant result ≡ verdict n (words_of k recs.now) 4096 }
 {
-    let mut w = [0u64; 5120];
-    let mut s = [0u64; 4096];
+    let mut w = [0u64; TRACE_LEN];
+    let mut s = [0u64; SPACE_LEN];
     octets::load(recs, &mut w, k);
     trace::check(n, &w[0..k], &mut s)
 }
@@ -201,9 +189,7 @@ fn tell(told: &mut [u8], place: u32)
     requires { length told.old ≡ 8 }
     ensures { told.new ≡ bytes_of (place ∷ []) }
 {
-    let x = place as u64;
-    let w = [x];
-    octets::save(&w, told, 1);
+    octets::save(&[u64::from(place)], told, 1);
 }
 
 // The trace checker on lent bytes: 0 if the trace keeps the rules; the rule that is broken first, 1 to 6, its record's place
@@ -211,22 +197,16 @@ fn tell(told: &mut [u8], place: u32)
 pub fn zab_check(n: u32, recs: &[u8], told: &mut [u8]) -> u8
     ensures { Judges (check_of n recs.now told.old) result told.new }
 {
-    if told.len() != 8 {
-        return 13;
-    }
     let len = recs.len();
-    if 40960 < len {
-        return 13;
-    }
-    if len % 8 != 0 {
-        return 13;
+    if told.len() != 8 || len > 8 * TRACE_LEN || len % 8 != 0 {
+        return u8::from(Refusal::Trace);
     }
     match verdict_of(n, recs, len / 8) {
         Verdict::Keeps => 0,
         Verdict::Breaks(place, rule) => {
             tell(told, place);
-            rule
+            rule as u8
         }
-        Verdict::Refused => 13,
+        Verdict::Refused => u8::from(Refusal::Trace),
     }
 }

@@ -7,19 +7,28 @@ ghost use Rattle.octets.specs.Bytes.{under, BYTE};
 ghost use Rattle.octets.specs.Record.{RECORD, state_words, state_at};
 ghost use Rattle.cabinet.specs.Run.{HELD, record_words, record_place, ring_words, record_fits, held_fits, cluster_at, five_of, records_of, held_of, run_of, Finishes};
 
-use base::{Place, Sizes};
+use base::{Place, Refusal, Sizes};
+use octets::RECORD_LEN;
 use ring::Rings;
 use rules::State;
 use site::Cluster;
+
+// Where the parts of the struct begin, after five numbers, and how many words it has.
+const RECORDS: usize = 5;
+
+const HEADS: usize = RECORDS + 7 * RECORD_LEN;
+
+const COUNTS: usize = HEADS + 49;
+
+const HELD_LEN: usize = COUNTS + 49;
 
 // Whether the words of record i fit.
 fn record_fits(held: &[u64], i: usize) -> bool
     requires { (length held.now ≡ HELD) × (i < 7) }
     ensures { result ≡ record_fits held.now i }
 {
-    let x = 5 + 38 * i;
-    let y = x + 38;
-    octets::record_fits(&held[x..y])
+    let at = RECORDS + RECORD_LEN * i;
+    octets::record_fits(&held[at..at + RECORD_LEN])
 }
 
 // Whether those of every record do.
@@ -27,36 +36,20 @@ fn records_fit(held: &[u64]) -> bool
     requires { length held.now ≡ HELD }
     ensures { result ≡ all_below 7 (record_fits held.now) }
 {
-    let mut i: usize = 0;
-    while i < 7 {
-        if !record_fits(held, i) {
-            return false;
-        }
-        i += 1;
-    }
-    true
+    (0..7).all(|i| record_fits(held, i))
 }
 
 // Whether the struct's words are as many as it has, each within its field.
+#[tactic(auto, unfolding(crate::specs::Run::held_fits, base::specs::Choice::both))]
 fn held_fits(held: &[u64]) -> bool
     ensures { result ≡ held_fits held.now }
 {
-    if held.len() != 369 {
-        return false;
-    }
-    if 255 < held[0] {
-        return false;
-    }
-    if 4294967295 < held[1] {
-        return false;
-    }
-    if 255 < held[2] {
-        return false;
-    }
-    if !records_fit(held) {
-        return false;
-    }
-    octets::all_under(held, 271, 369, 255)
+    held.len() == HELD_LEN
+        && held[0] <= u64::from(u8::MAX)
+        && held[1] <= u64::from(u32::MAX)
+        && held[2] <= u64::from(u8::MAX)
+        && records_fit(held)
+        && octets::all_under(held, HEADS, HELD_LEN, u64::from(u8::MAX))
 }
 
 // The record of server i.
@@ -64,9 +57,8 @@ fn read_record(held: &[u64], i: usize) -> State
     requires { (length held.now ≡ HELD) × ((i < 7) × (record_fits held.now i ≡ true)) }
     ensures { result ≡ state_at (record_words held.now i) }
 {
-    let x = 5 + 38 * i;
-    let y = x + 38;
-    octets::read_state(&held[x..y])
+    let at = RECORDS + RECORD_LEN * i;
+    octets::read_state(&held[at..at + RECORD_LEN])
 }
 
 // A byte of each ring.
@@ -74,37 +66,27 @@ fn read_ring(held: &[u64], at: usize) -> [u8; 49]
     requires { (at + RINGS ≤ length held.now) × (under BYTE (ring_words held.now at) ≡ true) }
     ensures { result ≡ ring_words held.now at }
 {
-    let mut q = [0u8; 49];
-    let mut i: usize = 0;
-    while i < 49 {
-        q[i] = octets::tiny(held[at + i]);
-        i += 1;
-    }
-    q
+    let words: [u64; 49] = held[at..at + 49].try_into().unwrap();
+    words.map(octets::tiny)
 }
 
 // The struct in words that fit.
+#[tactic(auto, using(crate::proofs::Runs::fit_of))]
 fn read_cluster(held: &[u64]) -> Cluster
     requires { held_fits held.now ≡ true }
     ensures { result ≡ cluster_at held.now }
 {
-    let a = read_record(held, 0);
-    let b = read_record(held, 1);
-    let c = read_record(held, 2);
-    let d = read_record(held, 3);
-    let e = read_record(held, 4);
-    let f = read_record(held, 5);
-    let g = read_record(held, 6);
-    let heads = read_ring(held, 271);
-    let counts = read_ring(held, 320);
     Cluster {
         sizes: Sizes {
             n: octets::tiny(held[0]),
             room: Place(octets::narrow(held[1])),
         },
         depth: octets::tiny(held[2]),
-        servers: [a, b, c, d, e, f, g],
-        rings: Rings { heads, counts },
+        servers: std::array::from_fn(|i| read_record(held, i)),
+        rings: Rings {
+            heads: read_ring(held, HEADS),
+            counts: read_ring(held, COUNTS),
+        },
     }
 }
 
@@ -113,11 +95,13 @@ fn write_five(held: &mut [u64], z: Sizes, depth: u8, met: usize, taken: usize)
     requires { 5 ≤ length held.old }
     ensures { held.new ≡ put held.old 0 (five_of z depth met taken) }
 {
-    held[0] = words::wide(z.n);
-    held[1] = octets::long(z.room.0);
-    held[2] = words::wide(depth);
-    held[3] = met as u64;
-    held[4] = taken as u64;
+    held[..RECORDS].copy_from_slice(&[
+        u64::from(z.n),
+        u64::from(z.room.0),
+        u64::from(depth),
+        met as u64,
+        taken as u64,
+    ]);
 }
 
 // The record of server i.
@@ -125,9 +109,8 @@ fn write_record(held: &mut [u64], i: usize, s: State)
     requires { (length held.old ≡ HELD) × (i < 7) }
     ensures { (held.new ≡ put held.old (record_place i) (state_words s)) × (length (state_words s) ≡ RECORD) }
 {
-    let x = 5 + 38 * i;
-    let y = x + 38;
-    octets::write_state(&mut held[x..y], s);
+    let at = RECORDS + RECORD_LEN * i;
+    octets::write_state(&mut held[at..at + RECORD_LEN], s);
 }
 
 // All records.
@@ -135,11 +118,8 @@ fn write_records(held: &mut [u64], ss: [State; 7])
     requires { length held.old ≡ HELD }
     ensures { (held.new ≡ put held.old 5 (records_of ss)) × (length (records_of ss) ≡ RECORD * 7) }
 {
-    let mut i: usize = 0;
-    while i < 7 {
-        let s = ss[i];
-        write_record(held, i, s);
-        i += 1;
+    for (i, s) in ss.iter().enumerate() {
+        write_record(held, i, *s);
     }
 }
 
@@ -148,11 +128,7 @@ fn write_ring(held: &mut [u64], at: usize, q: [u8; 49])
     requires { at + RINGS ≤ length held.old }
     ensures { held.new ≡ put held.old at q }
 {
-    let mut i: usize = 0;
-    while i < 49 {
-        held[at + i] = words::wide(q[i]);
-        i += 1;
-    }
+    held[at..at + 49].copy_from_slice(&q.map(u64::from));
 }
 
 // The struct into its words.
@@ -160,18 +136,14 @@ fn write_cluster(held: &mut [u64], c: Cluster, met: usize, taken: usize)
     requires { length held.old ≡ HELD }
     ensures { held.new ≡ held_of c met taken }
 {
-    let z = c.sizes;
-    write_five(held, z, c.depth, met, taken);
-    let ss = c.servers;
-    write_records(held, ss);
-    let r = c.rings;
-    let heads = r.heads;
-    write_ring(held, 271, heads);
-    let counts = r.counts;
-    write_ring(held, 320, counts);
+    write_five(held, c.sizes, c.depth, met, taken);
+    write_records(held, c.servers);
+    write_ring(held, HEADS, c.rings.heads);
+    write_ring(held, COUNTS, c.rings.counts);
 }
 
 // The run of a cluster on lent words: 0, or 1 and then every word is as it was.
+#[tactic(auto, unfolding(crate::specs::Run::held_fits, base::specs::Choice::both))]
 pub fn zab_run<'a>(
     held: &mut [u64],
     hists: &mut [u64],
@@ -184,15 +156,15 @@ pub fn zab_run<'a>(
     ensures { Finishes (run_of held.old hists.old cands.old queue.old out.old events.now budget) result held.new hists.new cands.new queue.new out.new }
 {
     if !held_fits(held) {
-        return 1;
+        return u8::from(Refusal::State);
     }
     let c = read_cluster(held);
     let t = runs::run(c, events, budget, hists, cands, queue, out);
-    let code = t.code;
-    if code != 0 {
-        return code;
+    match t.answer {
+        Ok(()) => {
+            write_cluster(held, t.cluster, t.met, t.taken);
+            0
+        }
+        Err(why) => u8::from(why),
     }
-    let d = t.cluster;
-    write_cluster(held, d, t.met, t.taken);
-    0
 }

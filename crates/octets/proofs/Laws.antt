@@ -6,10 +6,14 @@ use mathlib.Core.List.{List, [], ◌∷◌, ◌++◌, append_assoc, append-nil}
 use native.Mathlib.Omega.{arith}
 use native.Mathlib.Numerals.{add-one}
 use lib.Dec.{leb}
-use lib.ListN.{length, take, drop, get_or, set, length-append, length-drop, drop_of_length-le, take-append-drop}
+use lib.ListN.{length, take, drop, get_or, set, length-append, length-drop, take-append-drop}
 use lib.Seq.{drop-cons, set_at, append_snoc, take-suc, take_at, drop-drop, drop-append-add, length-take-le, take_all, get_or-drop, get_or-take}
-use borrow.Author.Tests.{leb-true, le-leb, lt-leb}
+use borrow.Author.Tests.{leb-true, le-leb}
 use borrow.Rule.Slice.PartMut.{put_mid}
+use Rattle.std.proofs.lemmas.Grind.{same_number_lists}
+use Rattle.std.specs.Int.{w64, from_le_bytes, from_bool}
+use Rattle.std.specs.List.{AllWithin, HoldsAt}
+use Rattle.std.specs.Bool.{MatchBool}
 use Rattle.base.specs.Choice.{both}
 use Rattle.base.specs.Transaction.{LAST}
 use Rattle.base.proofs.Choice.{both_true}
@@ -46,11 +50,15 @@ load-turn b w i l =
     (set_at (words_of i b) (get_or w i 0) (drop (suc i) w) (word_at b (8 * i)) i (length-words i b)
     ∙ sym (append_snoc (words_of i b) (word_at b (8 * i)) (drop (suc i) w)))
 
--- ---- bytes of words
+-- the library's word of eight bytes
+pub le-word : (b q : List ℕ) (k n : ℕ) → n ≡ 8 → q ≡ take n (drop k b) → from_le_bytes w64 q ≡ word_at b k
+unfolding word_at
+le-word b q k n e h =
+    let at : (i : ℕ) → i < 8 → get_or q i 0 ≡ get_or b (k + i) 0 = λ i l. rw (h, e, get_or-take 8 (drop k b) i 0 l) (get_or-drop k b i 0) in
+    let z : k + 0 ≡ k = omega arith in
+    rw (at 0 (omega arith), z, at 1 (omega arith), at 2 (omega arith), at 3 (omega arith), at 4 (omega arith), at 5 (omega arith), at 6 (omega arith), at 7 (omega arith)) (omega arith)
 
-pub eight-sets : (q : List ℕ) (x : ℕ) → length q ≡ 8 → put q 0 (eight x) ≡ eight x
-unfolding put
-eight-sets q x l = rw (drop_of_length-le q {i = 8} (omega arith))
+-- ---- bytes of words
 
 bytes-append : (v w : List ℕ) → bytes_of (v ++ w) ≡ bytes_of v ++ bytes_of w
 unfolding bytes_of
@@ -87,24 +95,6 @@ save-turn w b c y i n l e p q =
 
 -- ---- numbers within a bound
 
-part-cons : (w : List ℕ) (i to : ℕ) → i < to → to ≤ length w → take (to - i) (drop i w) ≡ get_or w i 0 ∷ take (to - (i + 1)) (drop (i + 1) w)
-part-cons w i to l m =
-    let e : to - i ≡ suc (to - (i + 1)) = omega arith in
-    rw (e, drop-cons w i 0 (omega arith)) (ap (λ (k : ℕ). get_or w i 0 ∷ take (to - (i + 1)) (drop k w)) (sym (add-one i)))
-
-module _ (k : ℕ) (w : List ℕ) (i to : ℕ) (x : Bool) where
-  pub under-on : i < to → to ≤ length w → get_or w i 0 ≤ k → under k (take (to - i) (drop i w)) ≡ x → under k (take (to - (i + 1)) (drop (i + 1) w)) ≡ x
-  unfolding under both
-  under-on l m h e = rw (part-cons w i to l m, le-leb (get_or w i 0) k h) at e
-
-  pub under-stop : i < to → to ≤ length w → k < get_or w i 0 → under k (take (to - i) (drop i w)) ≡ x → false ≡ x
-  unfolding under both
-  under-stop l m h e = rw (part-cons w i to l m, lt-leb (get_or w i 0) k h) at e
-
-  pub under-end : to ≤ i → under k (take (to - i) (drop i w)) ≡ x → true ≡ x
-  unfolding under
-  under-end l e = let z : to - i ≡ 0 = omega arith in rw z at e
-
 pub under_at : (k : ℕ) (l : List ℕ) → under k l ≡ true → (i : ℕ) → i < length l → get_or l i 0 ≤ k
 unfolding under
 under_at k [] e i h = absurd (omega arith)
@@ -116,6 +106,15 @@ unfolding under both
 under_of k [] f = refl
 under_of k (x ∷ l) f = rw (le-leb x k (f 0 (omega arith))) (under_of k l (λ i h. f (suc i) (omega arith)))
 
+over : (k : ℕ) (l : List ℕ) (i : ℕ) (b : Bool) → under k l ≡ b → i < length l → k < get_or l i 0 → false ≡ b
+over k l i true e m h = absurd (omega (arith, under_at k l e i m))
+over k l i false e m h = refl
+
+-- what `all` says
+pub under-said : (k : ℕ) (b : Bool) (l : List ℕ) → MatchBool b (AllWithin (λ x. x ≤ k) l 0 (length l)) ((i : ℕ) × (i < length l) × HoldsAt (λ x. k < x) l i) → b ≡ under k l
+under-said k true l h = sym (under_of k l (λ i m. h i 0 (omega arith) m))
+under-said k false l (i, m, h) = over k l i (under k l) refl m (h 0)
+
 -- a word of a part
 pub part_at : (k : ℕ) (w : List ℕ) (at n i : ℕ) → under k (take n (drop at w)) ≡ true → at + n ≤ length w → i < n → get_or w (at + i) 0 ≤ k
 part_at k w at n i e h l =
@@ -123,19 +122,6 @@ part_at k w at n i e h l =
     rw (get_or-take n (drop at w) i 0 l, get_or-drop at w i 0) at (under_at k (take n (drop at w)) e i (omega arith))
 
 -- ---- words put one after the other
-
-pub put-more : (w ys : List ℕ) (at n x : ℕ) → length ys ≡ n → at + n < length w → set (put w at ys) (at + n) x ≡ put w at (ys ++ (x ∷ []))
-unfolding put
-put-more w ys at n x e l =
-    let P = take at w ++ ys in
-    let a : length (take at w) ≡ at = length-take-le at w (omega arith) in
-    let b : length P ≡ at + n = length-append (take at w) ys ∙ omega arith in
-    let c : length (ys ++ (x ∷ [])) ≡ suc n = length-append ys (x ∷ []) ∙ omega arith in
-    let k : at + suc n ≡ suc (at + n) = omega arith in
-    rw (c, k, e, drop-cons w (at + n) 0 l)
-    (set_at P (get_or w (at + n) 0) (drop (suc (at + n)) w) x (at + n) b
-    ∙ sym (append_snoc P x (drop (suc (at + n)) w))
-    ∙ ap (λ (z : List ℕ). z ++ drop (suc (at + n)) w) (append_assoc (take at w) ys (x ∷ [])))
 
 take_put : (w ys : List ℕ) (at n : ℕ) → at + length ys ≡ n → n ≤ length w → take n (put w at ys) ≡ take at w ++ ys
 unfolding put
@@ -156,39 +142,36 @@ unfolding bits
 length-bits [] = refl
 length-bits (b ∷ q) = ap suc (length-bits q)
 
-bits-append : (p q : List Bool) → bits (p ++ q) ≡ bits p ++ bits q
-unfolding bits
-bits-append [] q = refl
-bits-append (b ∷ p) q = ap (λ (z : List ℕ). bit b ∷ z) (bits-append p q)
+-- a bit as the library converts it
+pub bit-from : (b : Bool) → from_bool b ≡ bit b
+unfolding bit
+bit-from true = refl
+bit-from false = refl
 
-module _ (w₀ w : List ℕ) (at i : ℕ) (h : at + 7 ≤ length w₀) (l : i < 7) where
-  pub flags-turn : (q : List Bool) → length q ≡ 7 → w ≡ put w₀ at (bits (take i q)) → set w (at + i) (bit (get_or q i false)) ≡ put w₀ at (bits (take (i + 1) q))
-  unfolding bits
-  flags-turn q m e =
-      let k : length (bits (take i q)) ≡ i = length-bits (take i q) ∙ length-take-le i q (omega arith) in
-      rw (e, add-one i, take-suc q i false (omega arith), bits-append (take i q) (get_or q i false ∷ []))
-      (put-more w₀ (bits (take i q)) at i (bit (get_or q i false)) k (omega arith))
+bit-at : (q : List Bool) (i : ℕ) → from_bool (get_or q i false) ≡ get_or (bits q) i 0
+unfolding bits bit
+bit-at [] i = refl
+bit-at (b ∷ q) zero = bit-from b
+bit-at (b ∷ q) (suc i) = bit-at q i
 
-  pub counts-turn : (q : List ℕ) → length q ≡ 7 → w ≡ put w₀ at (take i q) → set w (at + i) (get_or q i 0) ≡ put w₀ at (take (i + 1) q)
-  counts-turn q m e =
-      rw (e, add-one i, take-suc q i 0 (omega arith))
-      (put-more w₀ (take i q) at i (get_or q i 0) (length-take-le i q (omega arith)) (omega arith))
-
-module _ (w₀ w : List ℕ) (at i : ℕ) (l : i ≡ 7) where
-  pub flags-end : (q : List Bool) → length q ≡ 7 → w ≡ put w₀ at (bits (take i q)) → w ≡ put w₀ at (bits q)
-  flags-end q m e = e ∙ ap (λ (z : List Bool). put w₀ at (bits z)) (take_all i q (omega arith))
-
-  pub counts_end : (q : List ℕ) → length q ≡ 7 → w ≡ put w₀ at (take i q) → w ≡ put w₀ at q
-  counts_end q m e = e ∙ ap (put w₀ at) (take_all i q (omega arith))
+-- each a bit of the set, as the library converts it
+pub bits-of : (q : List Bool) (y : List ℕ) → length q ≡ 7 → length y ≡ 7 → ((i : ℕ) → i < 7 → get_or y i 0 ≡ from_bool (get_or q i false)) → y ≡ bits q
+bits-of q y m l f = same_number_lists y (bits q) (l ∙ sym (length-bits q ∙ m)) (λ i h. f i (omega arith) ∙ bit-at q i)
 
 -- seven words, one by one
-pub seven_at : (w : List ℕ) (k : ℕ) → k + 7 ≤ length w
-    → seven k w ≡ get_or w k 0 ∷ get_or w (k + 1) 0 ∷ get_or w (k + 2) 0 ∷ get_or w (k + 3) 0 ∷ get_or w (k + 4) 0 ∷ get_or w (k + 5) 0 ∷ get_or w (k + 6) 0 ∷ []
-seven_at w k h =
-    let go : (i : ℕ) → k + i < length w → drop (k + i) w ≡ get_or w (k + i) 0 ∷ drop (k + suc i) w = λ i m. let u : suc (k + i) ≡ k + suc i = omega arith in drop-cons w (k + i) 0 m ∙ ap (λ (j : ℕ). get_or w (k + i) 0 ∷ drop j w) u in
+pub seven_at : {A : Type 0} (w : List A) (k : ℕ) (d : A) → k + 7 ≤ length w
+    → take 7 (drop k w) ≡ get_or w k d ∷ get_or w (k + 1) d ∷ get_or w (k + 2) d ∷ get_or w (k + 3) d ∷ get_or w (k + 4) d ∷ get_or w (k + 5) d ∷ get_or w (k + 6) d ∷ []
+seven_at w k d h =
+    let go : (i : ℕ) → k + i < length w → drop (k + i) w ≡ get_or w (k + i) d ∷ drop (k + suc i) w = λ i m. let u : suc (k + i) ≡ k + suc i = omega arith in drop-cons w (k + i) d m ∙ ap (λ (j : ℕ). get_or w (k + i) d ∷ drop j w) u in
     let e : k + 0 ≡ k = omega arith in
-    let first : drop k w ≡ get_or w k 0 ∷ drop (k + 1) w = rw e at (go 0 (omega arith)) in
+    let first : drop k w ≡ get_or w k d ∷ drop (k + 1) w = rw e at (go 0 (omega arith)) in
     rw (first, go 1 (omega arith), go 2 (omega arith), go 3 (omega arith), go 4 (omega arith), go 5 (omega arith), go 6 (omega arith))
+
+pub seven-of : {A : Type 0} (q : List A) (d a₀ a₁ a₂ a₃ a₄ a₅ a₆ : A) → length q ≡ 7
+    → get_or q 0 d ≡ a₀ → get_or q 1 d ≡ a₁ → get_or q 2 d ≡ a₂ → get_or q 3 d ≡ a₃ → get_or q 4 d ≡ a₄ → get_or q 5 d ≡ a₅ → get_or q 6 d ≡ a₆
+    → q ≡ a₀ ∷ a₁ ∷ a₂ ∷ a₃ ∷ a₄ ∷ a₅ ∷ a₆ ∷ []
+seven-of q d a₀ a₁ a₂ a₃ a₄ a₅ a₆ l e₀ e₁ e₂ e₃ e₄ e₅ e₆ =
+    sym (take_all 7 q (omega arith)) ∙ seven_at q 0 d (omega arith) ∙ rw (e₀, e₁, e₂, e₃, e₄, e₅, e₆)
 
 -- ---- the record
 
@@ -226,14 +209,17 @@ module _ (w : List ℕ) (l : length w ≡ 38) (f : fits w ≡ true) where
       let z = both_true (under 1 (take 21 (drop 10 w))) (under LAST (seven 31 w)) y.1 in
       (x.0, (y.0, (z.0, z.1)))
 
-  pub tiny-at : (i : ℕ) → i < 3 → get_or w i 0 ≤ 255
-  tiny-at i h = let e : 0 + i ≡ i = omega arith in rw e at (part_at BYTE w 0 3 i parts.0 (omega arith) h)
+  pub tiny_at : (i : ℕ) → i < 3 → get_or w i 0 ≤ 255
+  tiny_at i h = let e : 0 + i ≡ i = omega arith in rw e at (part_at BYTE w 0 3 i parts.0 (omega arith) h)
 
-  pub narrow_at : (i : ℕ) → i < 7 → get_or w (3 + i) 0 ≤ LAST
-  narrow_at i h = part_at LAST w 3 7 i parts.1.0 (omega arith) h
+  pub narrow_at : (i : ℕ) → 3 ≤ i → i < 10 → get_or w i 0 ≤ LAST
+  narrow_at i g h = let e : 3 + (i - 3) ≡ i = omega arith in rw e at (part_at LAST w 3 7 (i - 3) parts.1.0 (omega arith) (omega arith))
 
   pub set-at-one : (i : ℕ) → i < 21 → get_or w (10 + i) 0 ≤ 1
   set-at-one i h = part_at 1 w 10 21 i parts.1.1.0 (omega arith) h
 
-  pub counts-fit : under LAST (seven 31 w) ≡ true
-  counts-fit = parts.1.1.1
+  pub count_at : (i : ℕ) → i < 7 → get_or w (31 + i) 0 ≤ LAST
+  count_at i h = part_at LAST w 31 7 i parts.1.1.1 (omega arith) h
+
+-- each field of a record that fits
+pub ruleset fields = (tiny_at, narrow_at, count_at)

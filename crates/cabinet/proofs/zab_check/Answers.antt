@@ -1,21 +1,20 @@
+use Rattle.base.specs.Choice.{pick, both}
+use Rattle.cabinet.specs.Trace.{said, told_of, check_of}
 use borrow.Author.Rules.{rules}
-use Rattle.cabinet.proofs.Checks.{bad-told, too_long, uneven, does-keep, does-break, does-refuse}
 use Rattle.cabinet.proofs.zab_check.Goals as goal
 
 pub returns-then-told-ne8 : goal.returns-then-told-ne8
-returns-then-told-ne8 c = search (bad-told, rules)
-
-pub returns-then-len-gt40960 : goal.returns-then-len-gt40960
-returns-then-len-gt40960 c = search (too_long, rules)
-
-pub returns-then-len-ne0 : goal.returns-then-len-ne0
-returns-then-len-ne0 c = search (uneven, rules)
+unfolding check_of pick both
+returns-then-told-ne8 c = search rules
 
 pub returns-in-Keeps : goal.returns-in-Keeps
-returns-in-Keeps c = search (does-keep, rules)
+unfolding check_of said told_of pick both
+returns-in-Keeps c = search rules
 
 pub returns-in-Breaks : goal.returns-in-Breaks
-returns-in-Breaks c = search (does-break, rules)
+unfolding check_of said told_of pick both
+returns-in-Breaks c = search rules
 
 pub returns-in-Refused : goal.returns-in-Refused
-returns-in-Refused c = search (does-refuse, rules)
+unfolding check_of said told_of pick both
+returns-in-Refused c = search rules

@@ -1,20 +1,24 @@
-use Prim.Native.Nat.{◌≤◌, ◌<◌}
-use mathlib.Core.Path.{refl}
-use native.Mathlib.Omega.{arith}
-use Rattle.octets.proofs.Laws.{part_at}
+use Rattle.std.proofs.Common.{rules, ◌≡◌, ◌+◌, ◌-◌, ◌≤◌, ◌<◌, length, take, drop, ℕ, List, arith, ◌∙◌, sym, ap, get_or}
+use Rattle.std.proofs.lemmas.Grind.{same_number_lists}
 use Rattle.octets.specs.Bytes.{BYTE}
-use Rattle.cabinet.proofs.Runs.{ring-turn, ring-end}
-use borrow.Author.Rules.{rules}
+use Rattle.octets.proofs.Laws.{under_at}
+use Rattle.cabinet.specs.Run.{ring_words}
+use Rattle.cabinet.proofs.Runs.{serves}
 use Rattle.cabinet.proofs.run.read_ring.Goals as goal
 
-pub loop-i-init : goal.loop-i-init
-loop-i-init c = (search rules, (refl, refl))
+ring-of : (w q : List ℕ) (at : ℕ) → q ≡ take (at + 49 - at) (drop at w) → q ≡ ring_words w at
+ring-of w q at e = let z : at + 49 - at ≡ 49 = omega arith in rw z at e
 
-pub tiny-requires : goal.tiny-requires
-tiny-requires c = let a = c.args in let l = c.loop-i in let m : l.i < 49 = search rules in part_at BYTE a.held.now a.at 49 l.i c.requires.1 c.requires.0 m
-
-pub loop-i-preserved : goal.loop-i-preserved
-loop-i-preserved c = let a = c.args in let l = c.loop-i in let m : l.i < 49 = search rules in (omega arith, (refl, ring-turn a.held.now _ l.q a.at l.i c.tiny.result c.requires.0 refl m l.invariant.1.1 c.tiny.ensures))
+pub map-requires : goal.map-requires
+map-requires c =
+    let a = c.args in
+    let e = rw c.unwrap-words.ensures at c.try_into.ensures.1 in
+    let small : (i : ℕ) → i < length c.unwrap-words.result → get_or c.unwrap-words.result i 0 ≤ BYTE =
+    rw (ring-of a.held.now _ a.at e.same) (λ i m. under_at BYTE (ring_words a.held.now a.at) c.requires.1 i m) in
+    (omega arith, (omega arith, (omega arith, serves _ _ _ _ (λ q i m. small i m))))
 
 pub returns : goal.returns
-returns c = let a = c.args in let l = c.loop-i in let m : 49 ≤ l.i = search rules in ring-end a.held.now _ l.q a.at l.i refl (omega (arith, l.invariant.0)) l.invariant.1.1
+returns c =
+    let e = rw c.unwrap-words.ensures at c.try_into.ensures.1 in
+    same_number_lists c.map.result c.unwrap-words.result (c.map.ensures.items.long ∙ sym (ap length e.same ∙ e.long)) (λ i h. let k = (c.map.ensures.items.at i 0 0 (omega (arith, c.map.ensures.items.long))).2 in search rules)
+    ∙ ring-of c.args.held.now _ c.args.at e.same
