@@ -15,7 +15,7 @@ fn fill(dst: &mut [u64], at: usize, src: &[u64], n: usize)
     requires { (at + n ≤ length dst.old) × (n ≤ length src.now) }
     ensures { dst.new ≡ take at dst.old ++ (take n src.now ++ zeros (length dst.old - (at + n))) }
 {
-    dst[at..at + n].copy_from_slice(&src[..n]);
+    words::copy_over(&mut dst[at..at + n], &src[..n]);
     words::clear_from(dst, at + n);
 }
 

@@ -65,7 +65,7 @@ pub fn push(z: Sizes, depth: u8, r: Rings, queue: &mut [u64], f: u8, t: u8, ws: 
     let k = wrap(depth, r.heads[c] + r.counts[c]);
     let at = slot_at(z, depth, c, k);
     let m = msg_size(z);
-    queue[at..at + m].copy_from_slice(&ws[..m]);
+    words::copy_over(&mut queue[at..at + m], &ws[..m]);
     let mut s = r;
     s.counts[c] += 1;
     s

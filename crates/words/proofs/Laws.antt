@@ -1,14 +1,14 @@
 -- What the library answers of slices, in the words of the contracts; a turn of each loop.
 use Prim.Native.Nat.{ℕ, zero, suc, ◌+◌, ◌-◌, ◌*◌, ◌≤◌, ◌<◌}
-use mathlib.Core.Path.{◌≡◌, refl, ap, subst, ◌∙◌}
+use mathlib.Core.Path.{◌≡◌, refl, sym, ap, subst, ◌∙◌}
 use mathlib.Core.Bool.{Bool, true, false, ◌&&◌}
 use mathlib.Core.List.{List, [], ◌∷◌, ◌++◌, append-nil}
 use native.Mathlib.Omega.{arith}
 use native.Mathlib.Numerals.{add-one}
 use lib.Dec.{eqb}
-use lib.ListN.{length, take, drop, get_or, replicate, drop_of_length-le, length-append, length-drop}
+use lib.ListN.{length, take, drop, get_or, set, replicate, drop_of_length-le, length-append, length-drop}
 use lib.Pointwise.{pointwise}
-use lib.Seq.{drop-drop, get_or-drop, take-append_seam, length-take-le}
+use lib.Seq.{take-suc, take-suc-set, drop-drop, get_or-drop, take-append_seam, length-take-le}
 use borrow.Rule.Slice.PartMut.{mid_of, put_mid}
 use Rattle.base.specs.Choice.{both, pick}
 use Rattle.base.specs.Quorum.{Set, weight, size}
@@ -16,7 +16,7 @@ use Rattle.base.specs.Transaction.{same_hist, same_txn, rising, follows}
 use Rattle.base.specs.declared.Txn.{Txn}
 use Rattle.rules.proofs.Words.{last-at}
 use Rattle.rules.specs.Words.{txns, zeros, all_zero}
-use Rattle.std.specs.List.{list_all}
+use Rattle.std.specs.List.{list_all, range_with_len}
 
 -- ---- slices compared, cleared and copied
 
@@ -57,6 +57,10 @@ filled d r n h e =
     let k : length (take (length d - n) (drop n d)) ≡ length d - n = length-take-le (length d - n) (drop n d) (omega (arith, length-drop n d)) in
     let o : drop (length d - n) (drop n d) ≡ [] = drop_of_length-le (drop n d) (omega (arith, length-drop n d)) in
     rw (e, k, o, append-nil, zeros_replicate (length d - n))
+
+-- one word more of s copied over q
+pub copy-on : (q s : List ℕ) (i : ℕ) → i < length q → i < length s → take i q ≡ take i s → take (i + 1) (set q i (get_or s i 0)) ≡ take (i + 1) s
+copy-on q s i l m e = rw (add-one i, take-suc-set q i (get_or s i 0) l, take-suc s i 0 m, e)
 
 -- the first n words copied over d, and then cleared past them
 pub copied : (d s r w : List ℕ) (n : ℕ) → n ≤ length d → n ≤ length s → r ≡ take n s → w ≡ take n (r ++ drop n d) ++ zeros (length (r ++ drop n d) - n) → w ≡ take n s ++ zeros (length d - n)
@@ -116,3 +120,20 @@ size_more q i = rw add-one
 pub ruleset counted = (size_none, size_more)
 
 pub ruleset last = (last-at)
+
+-- the same, transaction after transaction
+abbrev pub same_at : List ℕ → List ℕ → ℕ → Bool
+same_at a b j = eqb (get_or a (2 * j) 0) (get_or b (2 * j) 0) && eqb (get_or a (2 * j + 1) 0) (get_or b (2 * j + 1) 0)
+
+pub each_same : (d i : ℕ) (a b : List ℕ) → list_all (same_at a b) (range_with_len i d) ≡ same_hist (txns d (drop (2 * i) a)) (txns d (drop (2 * i) b))
+unfolding same_hist same_txn txns
+each_same zero i a b = refl
+each_same (suc d) i a b =
+    let e : i + suc d - i ≡ suc d = omega arith in
+    let f : i + suc d - (i + 1) ≡ d = omega arith in
+    let s : (w : List ℕ) → txns (suc d) (drop (2 * i) w) ≡ txn_of (get_or w (2 * i) 0) (get_or w (2 * i + 1) 0) ∷ txns d (drop (2 * (i + 1)) w) = λ w. rw (e, f) at (txns-step (i + suc d) i w (omega arith)) in
+    let x = eqb (get_or a (2 * i) 0) (get_or b (2 * i) 0) in
+    let y = eqb (get_or a (2 * i + 1) 0) (get_or b (2 * i + 1) 0) in
+    let r = same_hist (txns d (drop (2 * (i + 1)) a)) (txns d (drop (2 * (i + 1)) b)) in
+    (ap (λ (z : Bool). (x && y) && z) (each_same d (i + 1) a b) ∙ (and-both (x && y) r ∙ ap (λ (z : Bool). both z r) (and-both x y)))
+    ∙ sym (ap (λ (h : List Txn). same_hist h (txns (suc d) (drop (2 * i) b))) (s a) ∙ ap (λ (h : List Txn). same_hist (txn_of (get_or a (2 * i) 0) (get_or a (2 * i + 1) 0) ∷ txns d (drop (2 * (i + 1)) a)) h) (s b))

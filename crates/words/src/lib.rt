@@ -14,7 +14,6 @@ use base::{Epoch, Ident, Place};
 pub const TWO32: u64 = 4294967296;
 
 // Whether the first d transactions of both are the same.
-#[tactic(auto, using(crate::proofs::Laws::same_words))]
 pub fn same_prefix(a: &[u64], b: &[u64], d: usize) -> bool
     requires { (2 * d ≤ length a.now) × (2 * d ≤ length b.now) }
     ensures { result ≡ same_hist (txns d a.now) (txns d b.now) }
@@ -88,12 +87,23 @@ pub fn next_counter(e: Epoch, z: Ident) -> u64
     }
 }
 
+// The words of src over as many.
+// Stays: by `copy_from_slice` the archive would ask its C host for `memmove`, too.
+pub fn copy_over(dst: &mut [u64], src: &[u64])
+    requires { length dst.old ≡ length src.now }
+    ensures { dst.new ≡ src.now }
+{
+    for (i, x) in src.iter().enumerate() {
+        dst[i] = *x;
+    }
+}
+
 // The first n words of src, and zeros past them.
 pub fn take_over(dst: &mut [u64], src: &[u64], n: usize)
     requires { (n ≤ length dst.old) × (n ≤ length src.now) }
     ensures { dst.new ≡ take n src.now ++ zeros (length dst.old - n) }
 {
-    dst[..n].copy_from_slice(&src[..n]);
+    copy_over(&mut dst[..n], &src[..n]);
     clear_from(dst, n);
 }
 
