@@ -1,5 +1,5 @@
 -- Laws of the exported step.
-use Prim.Native.Nat.{ℕ, ◌+◌, ◌-◌, ◌*◌, ◌≤◌, ◌<◌}
+use Prim.Native.Nat.{ℕ, ◌+◌, ◌-◌, ◌*◌, ◌%◌, ◌≤◌, ◌<◌}
 use mathlib.Core.Path.{◌≡◌, refl, sym, ap, ◌∙◌}
 use mathlib.Core.Logic.{◌≢◌, ⊎_elim}
 use mathlib.Core.Bool.{true, false}
@@ -88,14 +88,15 @@ module _ (z : Sizes) (s : State) (ev : Event) (lent n j : ℕ) (h k m o H K M O 
 
 -- ---- the lengths
 
-record Sized (room b h k o : ℕ) : Type 0 where
+pub record Sized (room b h k o t : ℕ) : Type 0 where
   pub most : room ≤ 64
   pub rec : b ≡ 304
   pub hist : h ≡ 8 * hist_size room
   pub cand : k ≡ 8 * hist_size room
   pub box : 8 * box_size room ≤ o
+  pub told : t ≡ 2
 
-sized-says : (room b h k o t : ℕ) → sized room b h k o t ≡ true → Sized room b h k o
+pub sized-says : (room b h k o t : ℕ) → sized room b h k o t ≡ true → Sized room b h k o t
 unfolding sized
 sized-says room b h k o t e =
     let p = both_true (leb room 64) _ e in
@@ -103,7 +104,8 @@ sized-says room b h k o t e =
     let r = both_true (eqb h (8 * hist_size room)) _ q.1 in
     let u = both_true (eqb k (8 * hist_size room)) _ r.1 in
     let v = both_true (leb (8 * box_size room) o) _ u.1 in
-    record { most = leb-true room 64 p.0; rec = eqb-true b 304 q.0; hist = eqb-true h _ r.0; cand = eqb-true k _ u.0; box = leb-true _ o v.0 }
+    let w = both_true (eqb (o % 8) 0) _ v.1 in
+    record { most = leb-true room 64 p.0; rec = eqb-true b 304 q.0; hist = eqb-true h _ r.0; cand = eqb-true k _ u.0; box = leb-true _ o v.0; told = eqb-true t 2 w.1 }
 
 lent-few : (event room m : ℕ) → room ≤ 64 → slotted event room m ≡ true → (8 * lent_words event room ≤ m) × (lent_words event room ≤ 132)
 unfolding slotted lent_words pick

@@ -1,19 +1,17 @@
 -- Laws of the exported run: the cluster's struct in words, and one law for each return.
 use Prim.Native.Nat.{ℕ, suc, ◌+◌, ◌-◌, ◌*◌, ◌≤◌, ◌<◌}
-use mathlib.Core.Path.{◌≡◌, refl, sym, ap, subst, ◌∙◌}
+use mathlib.Core.Path.{◌≡◌, refl, sym, ap, ◌∙◌}
 use mathlib.Core.Bool.{Bool, true, false}
 use mathlib.Core.List.{List, [], ◌∷◌, ◌++◌, append_assoc, append-nil}
 use native.Mathlib.Omega.{arith}
 use native.Mathlib.Numerals.{add-one}
 use lib.Dec.{eqb, leb}
-use lib.ListN.{length, take, drop, get_or, length-append, length-drop, drop_of_length-le}
-use lib.Seq.{take-suc, length-take-le, take_all, get_or-drop, get_or-take}
+use lib.ListN.{length, take, drop, get_or, set, length-append, length-drop, drop_of_length-le}
+use lib.Seq.{drop-cons, set_at, append_snoc, take-suc, length-take-le, take_all, get_or-drop, get_or-take}
 use borrow.Author.Tests.{eqb-true, leb-true}
 use borrow.Rule.Slice.PartMut.{put_mid}
-use Rattle.std.specs.Array.{list_steps}
 use Rattle.std.specs.Bool.{MatchBool}
 use Rattle.std.specs.Prelude.{Err}
-use Rattle.std.specs.Iterator.{Yields, CallableAtEachTurn}
 use Rattle.std.specs.List.{AllWithin, HoldsAt, range_with_len}
 use Rattle.std.proofs.lemmas.List.FromFn.{get_or-range_with_len}
 use Rattle.base.specs.Choice.{pick, both, all_below}
@@ -28,7 +26,7 @@ use Rattle.rules.specs.Words.{tab, put}
 use Rattle.rules.proofs.Words.{mid-put, put-put}
 use Rattle.octets.specs.Bytes.{under, BYTE}
 use Rattle.octets.specs.Record.{state_words, state_at}
-use Rattle.octets.proofs.Laws.{under_of, part_at, put-none}
+use Rattle.octets.proofs.Laws.{under_of, part_at, put-more, put-none}
 use Rattle.site.specs.declared.Cluster.{Cluster}
 use Rattle.runs.specs.declared.Ran.{Ran}
 use Rattle.site.specs.Site.{Site, site_of, none}
@@ -87,16 +85,27 @@ fit_of w e =
 
 -- ---- a byte of each ring
 
--- an item of the list comes each time
-item : (xs s t u : List ℕ) (x : ℕ) → Yields list_steps s xs t → t ≡ x ∷ u → (i : ℕ) × (i < length s) × (get_or s i 0 ≡ x)
-item [] s t u x y e = (0, rw (y ∙ e) (omega arith), rw (y ∙ e))
-item (z ∷ xs) s t u x y e =
-    let r = item xs y.0 t u x y.2 e in
-    (suc r.0, rw y.1 (omega (arith, r.1)), rw y.1 r.2)
+pub ring-turn : (w z q : List ℕ) (at i x : ℕ) → at + 49 ≤ length w → length z ≡ 49 → i < 49 → q ≡ take i (drop at w) ++ drop i z → x ≡ get_or w (at + i) 0
+    → set q i x ≡ take (i + 1) (drop at w) ++ drop (i + 1) z
+ring-turn w z q at i x h l m e v =
+    let D = drop at w in
+    let n : i < length D = omega (arith, length-drop at w) in
+    let y : x ≡ get_or D i 0 = v ∙ sym (get_or-drop at w i 0) in
+    rw (e, y, add-one i, take-suc D i 0 n, drop-cons z i 0 (omega arith))
+    (set_at (take i D) (get_or z i 0) (drop (suc i) z) (get_or D i 0) i (length-take-le i D (omega arith))
+    ∙ sym (append_snoc (take i D) (get_or D i 0) (drop (suc i) z)))
 
--- what is right of each item may be called on all
-pub serves : {F : Type 0} (R : F → ℕ → F → Type 0) (Q : F → ℕ → Type 0) (f : F) (s : List ℕ) → ((q : F) (i : ℕ) → i < length s → Q q (get_or s i 0)) → CallableAtEachTurn list_steps R Q s f
-serves R Q f s h = record { at = λ xs t q x u y c e. let r = item xs s t u x y e in subst (Q q) r.2 (h q r.0 r.1) }
+pub ring-end : (w z q : List ℕ) (at i : ℕ) → length z ≡ 49 → i ≡ 49 → q ≡ take i (drop at w) ++ drop i z → q ≡ ring_words w at
+ring-end w z q at i l m e =
+    e ∙ rw (m, drop_of_length-le z {i = 49} (omega arith)) (append-nil (take 49 (drop at w)))
+
+pub ring-put : (w₀ w q : List ℕ) (at i : ℕ) → at + 49 ≤ length w₀ → i < 49 → length q ≡ 49 → w ≡ put w₀ at (take i q) → set w (at + i) (get_or q i 0) ≡ put w₀ at (take (i + 1) q)
+ring-put w₀ w q at i h l m e =
+    rw (e, add-one i, take-suc q i 0 (omega arith))
+    (put-more w₀ (take i q) at i (get_or q i 0) (length-take-le i q (omega arith)) (omega arith))
+
+pub ring-put-end : (w₀ w q : List ℕ) (at i : ℕ) → i ≡ 49 → length q ≡ 49 → w ≡ put w₀ at (take i q) → w ≡ put w₀ at q
+ring-put-end w₀ w q at i l m e = e ∙ ap (put w₀ at) (take_all i q (omega arith))
 
 -- ---- words put one after the other
 

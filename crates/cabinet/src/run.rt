@@ -66,8 +66,11 @@ fn read_ring(held: &[u64], at: usize) -> [u8; 49]
     requires { (at + RINGS ≤ length held.now) × (under BYTE (ring_words held.now at) ≡ true) }
     ensures { result ≡ ring_words held.now at }
 {
-    let words: [u64; 49] = held[at..at + 49].try_into().unwrap();
-    words.map(octets::tiny)
+    let mut q = [0u8; 49];
+    for (i, x) in held[at..at + 49].iter().enumerate() {
+        q[i] = octets::tiny(*x);
+    }
+    q
 }
 
 // The struct in words that fit.
@@ -128,7 +131,9 @@ fn write_ring(held: &mut [u64], at: usize, q: [u8; 49])
     requires { at + RINGS ≤ length held.old }
     ensures { held.new ≡ put held.old at q }
 {
-    held[at..at + 49].copy_from_slice(&q.map(u64::from));
+    for (i, x) in q.iter().enumerate() {
+        held[at + i] = u64::from(*x);
+    }
 }
 
 // The struct into its words.

@@ -10,7 +10,6 @@ use lib.ListN.{length, take, drop, get_or, set, length-append, length-drop, take
 use lib.Seq.{drop-cons, set_at, append_snoc, take-suc, take_at, drop-drop, drop-append-add, length-take-le, take_all, get_or-drop, get_or-take}
 use borrow.Author.Tests.{leb-true, le-leb}
 use borrow.Rule.Slice.PartMut.{put_mid}
-use Rattle.std.proofs.lemmas.Grind.{same_number_lists}
 use Rattle.std.specs.Int.{w64, from_le_bytes, from_bool}
 use Rattle.std.specs.List.{AllWithin, HoldsAt}
 use Rattle.std.specs.Bool.{MatchBool}
@@ -50,13 +49,17 @@ load-turn b w i l =
     (set_at (words_of i b) (get_or w i 0) (drop (suc i) w) (word_at b (8 * i)) i (length-words i b)
     ∙ sym (append_snoc (words_of i b) (word_at b (8 * i)) (drop (suc i) w)))
 
--- the library's word of eight bytes
-pub le-word : (b q : List ℕ) (k n : ℕ) → n ≡ 8 → q ≡ take n (drop k b) → from_le_bytes w64 q ≡ word_at b k
+-- a word as the library's, of its eight bytes
+pub word-bytes : (b : List ℕ) (k : ℕ)
+    → word_at b k ≡ from_le_bytes w64 (get_or b k 0 ∷ get_or b (k + 1) 0 ∷ get_or b (k + 2) 0 ∷ get_or b (k + 3) 0 ∷ get_or b (k + 4) 0 ∷ get_or b (k + 5) 0 ∷ get_or b (k + 6) 0 ∷ get_or b (k + 7) 0 ∷ [])
 unfolding word_at
+word-bytes b k = omega arith
+
+pub le-word : (b q : List ℕ) (k n : ℕ) → n ≡ 8 → q ≡ take n (drop k b) → from_le_bytes w64 q ≡ word_at b k
 le-word b q k n e h =
     let at : (i : ℕ) → i < 8 → get_or q i 0 ≡ get_or b (k + i) 0 = λ i l. rw (h, e, get_or-take 8 (drop k b) i 0 l) (get_or-drop k b i 0) in
     let z : k + 0 ≡ k = omega arith in
-    rw (at 0 (omega arith), z, at 1 (omega arith), at 2 (omega arith), at 3 (omega arith), at 4 (omega arith), at 5 (omega arith), at 6 (omega arith), at 7 (omega arith)) (omega arith)
+    rw (at 0 (omega arith), z, at 1 (omega arith), at 2 (omega arith), at 3 (omega arith), at 4 (omega arith), at 5 (omega arith), at 6 (omega arith), at 7 (omega arith)) (sym (word-bytes b k))
 
 -- ---- bytes of words
 
@@ -129,6 +132,19 @@ take_put w ys at n e l =
     let a : length (take at w) ≡ at = length-take-le at w (omega arith) in
     take_at (take at w ++ ys) (drop (at + length ys) w) n (length-append (take at w) ys ∙ omega arith)
 
+pub put-more : (w ys : List ℕ) (at n x : ℕ) → length ys ≡ n → at + n < length w → set (put w at ys) (at + n) x ≡ put w at (ys ++ (x ∷ []))
+unfolding put
+put-more w ys at n x e l =
+    let P = take at w ++ ys in
+    let a : length (take at w) ≡ at = length-take-le at w (omega arith) in
+    let b : length P ≡ at + n = length-append (take at w) ys ∙ omega arith in
+    let c : length (ys ++ (x ∷ [])) ≡ suc n = length-append ys (x ∷ []) ∙ omega arith in
+    let k : at + suc n ≡ suc (at + n) = omega arith in
+    rw (c, k, e, drop-cons w (at + n) 0 l)
+    (set_at P (get_or w (at + n) 0) (drop (suc (at + n)) w) x (at + n) b
+    ∙ sym (append_snoc P x (drop (suc (at + n)) w))
+    ∙ ap (λ (z : List ℕ). z ++ drop (suc (at + n)) w) (append_assoc (take at w) ys (x ∷ [])))
+
 pub put-none : (w : List ℕ) (at : ℕ) → w ≡ put w at []
 unfolding put
 put-none w at =
@@ -148,15 +164,30 @@ unfolding bit
 bit-from true = refl
 bit-from false = refl
 
-bit-at : (q : List Bool) (i : ℕ) → from_bool (get_or q i false) ≡ get_or (bits q) i 0
-unfolding bits bit
-bit-at [] i = refl
-bit-at (b ∷ q) zero = bit-from b
-bit-at (b ∷ q) (suc i) = bit-at q i
+bits-append : (p q : List Bool) → bits (p ++ q) ≡ bits p ++ bits q
+unfolding bits
+bits-append [] q = refl
+bits-append (b ∷ p) q = ap (λ (z : List ℕ). bit b ∷ z) (bits-append p q)
 
--- each a bit of the set, as the library converts it
-pub bits-of : (q : List Bool) (y : List ℕ) → length q ≡ 7 → length y ≡ 7 → ((i : ℕ) → i < 7 → get_or y i 0 ≡ from_bool (get_or q i false)) → y ≡ bits q
-bits-of q y m l f = same_number_lists y (bits q) (l ∙ sym (length-bits q ∙ m)) (λ i h. f i (omega arith) ∙ bit-at q i)
+module _ (w₀ w : List ℕ) (at i : ℕ) (h : at + 7 ≤ length w₀) (l : i < 7) where
+  pub flags-turn : (q : List Bool) → length q ≡ 7 → w ≡ put w₀ at (bits (take i q)) → set w (at + i) (bit (get_or q i false)) ≡ put w₀ at (bits (take (i + 1) q))
+  unfolding bits
+  flags-turn q m e =
+      let k : length (bits (take i q)) ≡ i = length-bits (take i q) ∙ length-take-le i q (omega arith) in
+      rw (e, add-one i, take-suc q i false (omega arith), bits-append (take i q) (get_or q i false ∷ []))
+      (put-more w₀ (bits (take i q)) at i (bit (get_or q i false)) k (omega arith))
+
+  pub counts-turn : (q : List ℕ) → length q ≡ 7 → w ≡ put w₀ at (take i q) → set w (at + i) (get_or q i 0) ≡ put w₀ at (take (i + 1) q)
+  counts-turn q m e =
+      rw (e, add-one i, take-suc q i 0 (omega arith))
+      (put-more w₀ (take i q) at i (get_or q i 0) (length-take-le i q (omega arith)) (omega arith))
+
+module _ (w₀ w : List ℕ) (at i : ℕ) (l : i ≡ 7) where
+  pub flags-end : (q : List Bool) → length q ≡ 7 → w ≡ put w₀ at (bits (take i q)) → w ≡ put w₀ at (bits q)
+  flags-end q m e = e ∙ ap (λ (z : List Bool). put w₀ at (bits z)) (take_all i q (omega arith))
+
+  pub counts_end : (q : List ℕ) → length q ≡ 7 → w ≡ put w₀ at (take i q) → w ≡ put w₀ at q
+  counts_end q m e = e ∙ ap (put w₀ at) (take_all i q (omega arith))
 
 -- seven words, one by one
 pub seven_at : {A : Type 0} (w : List A) (k : ℕ) (d : A) → k + 7 ≤ length w

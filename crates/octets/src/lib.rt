@@ -5,7 +5,7 @@ ghost use Rattle.std.specs.Prelude.{◌≡◌, true, ◌++◌, ◌+◌, ◌-◌,
 ghost use Rattle.base.specs.Transaction.{LAST};
 ghost use Rattle.rules.specs.Words.{put};
 ghost use Rattle.octets.specs.Bytes.{word_at, words_of, eight, bytes_of, under};
-ghost use Rattle.octets.specs.Record.{RECORD, seven, flags, ten_of, state_words, state_at, fits};
+ghost use Rattle.octets.specs.Record.{RECORD, bits, seven, flags, ten_of, state_words, state_at, fits};
 
 use base::{Epoch, Place};
 use rules::State;
@@ -139,11 +139,24 @@ pub fn long(n: u32) -> u64
     u64::from(n)
 }
 
-fn put_seven(w: &mut [u64], at: usize, q: [u64; 7])
+// A set into seven words, 0 or 1 each.
+// Stays: by `map` a host's step takes a tenth more.
+fn put_flags(w: &mut [u64], at: usize, q: [bool; 7])
+    requires { at + 7 ≤ length w.old }
+    ensures { w.new ≡ put w.old at (bits q) }
+{
+    for (i, x) in q.iter().enumerate() {
+        w[at + i] = u64::from(*x);
+    }
+}
+
+fn put_counts(w: &mut [u64], at: usize, q: [u32; 7])
     requires { at + 7 ≤ length w.old }
     ensures { w.new ≡ put w.old at q }
 {
-    w[at..at + 7].copy_from_slice(&q);
+    for (i, n) in q.iter().enumerate() {
+        w[at + i] = u64::from(*n);
+    }
 }
 
 fn put_ten(w: &mut [u64], s: State)
@@ -170,8 +183,8 @@ pub fn write_state(w: &mut [u64], s: State)
     ensures { w.new ≡ state_words s }
 {
     put_ten(w, s);
-    put_seven(w, JOINED, s.joined.map(u64::from));
-    put_seven(w, ACKED, s.acked.map(u64::from));
-    put_seven(w, SYNCED, s.synced.map(u64::from));
-    put_seven(w, COUNTS, s.counts.map(u64::from));
+    put_flags(w, JOINED, s.joined);
+    put_flags(w, ACKED, s.acked);
+    put_flags(w, SYNCED, s.synced);
+    put_counts(w, COUNTS, s.counts);
 }

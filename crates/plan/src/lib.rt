@@ -57,8 +57,8 @@ const ROLE: Option<Refusal> = Some(Refusal::Role);
 
 const PHASE: Option<Refusal> = Some(Refusal::Phase);
 
-// The table of nine kinds against nine stages.
-const TABLE: [[Option<Refusal>; 9]; 9] = [
+// The table of nine kinds against nine stages; as a static it is not built anew at each call.
+static TABLE: [[Option<Refusal>; 9]; 9] = [
     [ROLE, ROLE, ROLE, ROLE, ROLE, TAKE, TAKE, TAKE, TAKE],
     [ROLE, TAKE, PHASE, PHASE, PHASE, ROLE, ROLE, ROLE, ROLE],
     [ROLE, ROLE, ROLE, ROLE, ROLE, PHASE, TAKE, TAKE, TAKE],

@@ -1,24 +1,43 @@
-use Rattle.std.proofs.Common.{rules, ◌≡◌, ◌+◌, ◌-◌, ◌≤◌, ◌<◌, length, take, drop, ℕ, List, arith, ◌∙◌, sym, ap, get_or}
-use Rattle.std.proofs.lemmas.Grind.{same_number_lists}
+use Rattle.std.proofs.Common.{◌≡◌, ◌+◌, ◌-◌, ◌≤◌, ◌<◌, length, take, drop, get_or, ℕ, List, arith, refl, ◌∙◌, length-drop}
+use lib.Seq.{length-take-le, get_or-drop, get_or-take}
 use Rattle.octets.specs.Bytes.{BYTE}
-use Rattle.octets.proofs.Laws.{under_at}
-use Rattle.cabinet.specs.Run.{ring_words}
-use Rattle.cabinet.proofs.Runs.{serves}
+use Rattle.octets.proofs.Laws.{part_at}
+use Rattle.cabinet.proofs.Runs.{ring-turn, ring-end}
 use Rattle.cabinet.proofs.run.read_ring.Goals as goal
 
-ring-of : (w q : List ℕ) (at : ℕ) → q ≡ take (at + 49 - at) (drop at w) → q ≡ ring_words w at
-ring-of w q at e = let z : at + 49 - at ≡ 49 = omega arith in rw z at e
+-- the words that are gone through
+module _ (w : List ℕ) (at : ℕ) (h : at + 49 ≤ length w) where
+  part : at + 49 - at ≡ 49
+  part = omega arith
 
-pub map-requires : goal.map-requires
-map-requires c =
-    let a = c.args in
-    let e = rw c.unwrap-words.ensures at c.try_into.ensures.1 in
-    let small : (i : ℕ) → i < length c.unwrap-words.result → get_or c.unwrap-words.result i 0 ≤ BYTE =
-    rw (ring-of a.held.now _ a.at e.same) (λ i m. under_at BYTE (ring_words a.held.now a.at) c.requires.1 i m) in
-    (omega arith, (omega arith, (omega arith, serves _ _ _ _ (λ q i m. small i m))))
+  many : length (take (at + 49 - at) (drop at w)) ≡ 49
+  many = rw part (length-take-le 49 (drop at w) (omega (arith, length-drop at w)))
+
+  word : (i : ℕ) → i < 49 → get_or (take (at + 49 - at) (drop at w)) i 0 ≡ get_or w (at + i) 0
+  word i l = rw (part, get_or-take 49 (drop at w) i 0 l) (get_or-drop at w i 0)
+
+pub loop-i-init : goal.loop-i-init
+loop-i-init c = refl
+
+pub tiny-requires : goal.tiny-requires
+tiny-requires c =
+    let w = c.args.held.now in
+    let at = c.args.at in
+    let h = c.requires.0 in
+    let m : c.loop-i.i < 49 = omega (arith, many w at h) in
+    rw (word w at h c.loop-i.i m) (part_at BYTE w at 49 c.loop-i.i c.requires.1 h m)
+
+pub loop-i-preserved : goal.loop-i-preserved
+loop-i-preserved c =
+    let w = c.args.held.now in
+    let at = c.args.at in
+    let h = c.requires.0 in
+    let l = c.loop-i in
+    let m : l.i < 49 = omega (arith, many w at h) in
+    ring-turn w _ l.q at l.i c.tiny.result h refl m l.invariant (c.tiny.ensures ∙ word w at h l.i m)
 
 pub returns : goal.returns
 returns c =
-    let e = rw c.unwrap-words.ensures at c.try_into.ensures.1 in
-    same_number_lists c.map.result c.unwrap-words.result (c.map.ensures.items.long ∙ sym (ap length e.same ∙ e.long)) (λ i h. let k = (c.map.ensures.items.at i 0 0 (omega (arith, c.map.ensures.items.long))).2 in search rules)
-    ∙ ring-of c.args.held.now _ c.args.at e.same
+    let a = c.args in
+    let l = c.loop-i in
+    ring-end a.held.now _ l.q a.at l.i refl (omega (arith, many a.held.now a.at c.requires.0)) l.invariant

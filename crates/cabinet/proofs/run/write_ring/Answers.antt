@@ -1,13 +1,13 @@
-use Rattle.std.proofs.Common.{rules, ◌≡◌, ◌+◌, ◌-◌, length, arith, ◌∙◌, sym}
-use Rattle.std.proofs.lemmas.Grind.{same_number_lists}
-use Rattle.rules.proofs.Words.{mid-put}
+use Rattle.std.proofs.Common.{rules, arith}
+use Rattle.octets.proofs.Laws.{put-none}
+use Rattle.cabinet.proofs.Runs.{ring-put, ring-put-end}
 use Rattle.cabinet.proofs.run.write_ring.Goals as goal
 
+pub loop-i-init : goal.loop-i-init
+loop-i-init c = put-none _ _
+
+pub loop-i-preserved : goal.loop-i-preserved
+loop-i-preserved c = let a = c.args in let l = c.loop-i in rw c.from.ensures (ring-put a.held.now l.held a.q a.at l.i c.requires c.loop-i-test.true (search rules) l.invariant)
+
 pub returns : goal.returns
-returns c =
-    let a = c.args in
-    let l : length a.q ≡ 49 = search rules in
-    let e : c.map.result ≡ a.q =
-    same_number_lists c.map.result a.q (c.map.ensures.items.long ∙ sym l) (λ i h. let k = (c.map.ensures.items.at i 0 0 (omega arith)).2 in search rules) in
-    let f = c.copy_from_slice.ensures.after in
-    rw (← e, ← f) (mid-put a.at (a.at + 49 - a.at) a.held.now c.copy_from_slice.new.self (omega (arith, c.map.ensures.items.long)))
+returns c = let a = c.args in let l = c.loop-i in ring-put-end a.held.now l.held a.q a.at l.i (omega arith) (search rules) l.invariant
