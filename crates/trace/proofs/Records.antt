@@ -3,7 +3,7 @@ use Prim.Native.Nat.{ℕ, zero, suc, ◌+◌, ◌-◌, ◌≤◌, ◌<◌}
 use mathlib.Core.Path.{◌≡◌, refl, sym, ap, ◌∙◌, subst}
 use mathlib.Core.Logic.{◌⊎◌, ⊎_elim}
 use mathlib.Core.Bool.{Bool, true, false, not}
-use mathlib.Core.List.{List, [], ◌∷◌, ◌++◌, map}
+use mathlib.Core.List.{List, [], ◌∷◌, map}
 use native.Mathlib.Omega.{arith}
 use lib.Dec.{eqb, leb, ltb}
 use lib.ListN.{length, take, get_or, length-append, get_or-append}
@@ -19,7 +19,7 @@ use Rattle.base.specs.Record.{Entry, Rec, E, B, «V», X, same}
 use Rattle.base.proofs.Choice.{tests, case, le-or-lt, either_left, either-right}
 use Rattle.trace.specs.Rules.{Past, less, any_b, sound, all_sound}
 use Rattle.trace.specs.Fold.{mem}
-use Rattle.trace.specs.Words.{Within, kind_of, who_of, epoch_at, counter_at, entry_at, rec_at, recs_from, past_at, known_at, all_known, submits}
+use Rattle.trace.specs.Words.{Within, kind_of, who_of, epoch_at, counter_at, entry_at, rec_at, recs_from, past_at, known_at, all_known, submits, road}
 use Rattle.trace.specs.Step.{Source, late_of}
 
 -- ---- kinds
@@ -143,43 +143,44 @@ found-none p (x ∷ xs) e (suc j) h = case (p x) (λ q. let y = rw q at e in cc)
 
 -- the records before record i, those from `seen` on first
 module _ (i seen : ℕ) (h : seen ≤ i) where
-  abbrev pub road : List ℕ
-  road = range_with_len seen (i - seen) ++ range_with_len 0 seen
-
-  road-length : length road ≡ i
+  road-length : length (road i seen) ≡ i
   road-length = length-append (range_with_len seen (i - seen)) (range_with_len 0 seen) ∙ omega (arith, length-range_with_len seen (i - seen), length-range_with_len 0 seen)
 
-  front : (j : ℕ) → j < i - seen → get_or road j 0 ≡ seen + j
+  front : (j : ℕ) → j < i - seen → get_or (road i seen) j 0 ≡ seen + j
   front j l = get_or-append (range_with_len seen (i - seen)) (range_with_len 0 seen) 0 j (omega (arith, length-range_with_len seen (i - seen))) ∙ get_or-range_with_len seen (i - seen) j 0 l
 
-  back : (j : ℕ) → j < seen → get_or road (i - seen + j) 0 ≡ j
+  back : (j : ℕ) → j < seen → get_or (road i seen) (i - seen + j) 0 ≡ j
   back j l =
       let z : length (range_with_len seen (i - seen)) ≡ i - seen = length-range_with_len seen (i - seen) in
-      subst (λ (m : ℕ). get_or road (m + j) 0 ≡ j) z (get_or-append-add (range_with_len seen (i - seen)) (range_with_len 0 seen) j 0 ∙ get_or-range_with_len 0 seen j 0 l ∙ omega arith)
+      subst (λ (m : ℕ). get_or (road i seen) (m + j) 0 ≡ j) z (get_or-append-add (range_with_len seen (i - seen)) (range_with_len 0 seen) j 0 ∙ get_or-range_with_len 0 seen j 0 l ∙ omega arith)
 
-  road-low : (j : ℕ) → j < length road → get_or road j 0 < i
+  road-low : (j : ℕ) → j < length (road i seen) → get_or (road i seen) j 0 < i
   road-low j l = ⊎_elim
       (λ (x : i - seen ≤ j). let z : i - seen + (j - (i - seen)) ≡ j = omega arith in
       let y : j - (i - seen) < seen = omega (arith, road-length) in
-      subst (λ (m : ℕ). get_or road m 0 < i) z (omega (arith, back (j - (i - seen)) y)))
+      subst (λ (m : ℕ). get_or (road i seen) m 0 < i) z (omega (arith, back (j - (i - seen)) y)))
       (λ (x : j < i - seen). omega (arith, front j x))
       (le-or-lt (i - seen) j)
 
-  pub road-within : (w : List ℕ) (x j : ℕ) → Within w i → j < length road → x ≡ get_or road j x → Within w x
+  pub road-within : (w : List ℕ) (x j : ℕ) → Within w i → j < length (road i seen) → x ≡ get_or (road i seen) j x → Within w x
   road-within w x j g l e =
-      let z : x ≡ get_or road j 0 = e ∙ get_or_default road j x 0 l in
+      let z : x ≡ get_or (road i seen) j 0 = e ∙ get_or_default (road i seen) j x 0 l in
       omega (arith, road-low j l)
 
-  pub source-is : (w : List ℕ) (o : Option ℕ) → option_map (λ x. x) o ≡ find (submits w i) road → Source w i o
+  pub source-is : (w : List ℕ) (o : Option ℕ) → option_map (λ x. x) o ≡ find (submits w i) (road i seen) → Source w i o
   source-is w None e = none_any w i i (λ m l. ⊎_elim
       (λ (x : seen ≤ m). let z : seen + (m - seen) ≡ m = omega arith in
-      ap (submits w i) (sym (front (m - seen) (omega arith) ∙ z)) ∙ found-none (submits w i) road (sym e) (m - seen) (omega (arith, road-length)))
-      (λ (x : m < seen). ap (submits w i) (sym (back m x)) ∙ found-none (submits w i) road (sym e) (i - seen + m) (omega (arith, road-length)))
+      ap (submits w i) (sym (front (m - seen) (omega arith) ∙ z)) ∙ found-none (submits w i) (road i seen) (sym e) (m - seen) (omega (arith, road-length)))
+      (λ (x : m < seen). ap (submits w i) (sym (back m x)) ∙ found-none (submits w i) (road i seen) (sym e) (i - seen + m) (omega (arith, road-length)))
       (le-or-lt seen m))
   source-is w (Some k) e =
-      let r = found-at (submits w i) road k (sym e) in
+      let r = found-at (submits w i) (road i seen) k (sym e) in
       let l : k < i = omega (arith, r.1.2, road-low r.1.0 r.1.1) in
       (l, any_at w i k i l r.0)
+
+pub source-first : (o p : Option ℕ) → option_map (λ x. x) o ≡ p → o ≡ p
+source-first None p e = e
+source-first (Some k) p e = e
 
 -- ---- the longest, as records
 

@@ -1,5 +1,6 @@
 -- The records of a trace as words, and what is looked for among them.
-use Rattle.std.specs.Prelude.{ℕ, zero, suc, ◌+◌, ◌*◌, ◌/◌, ◌%◌, ◌≤◌, ◌<◌, Bool, true, List, [], ◌∷◌, ◌++◌, eqb, leb, length, get_or, drop}
+use Rattle.std.specs.Prelude.{ℕ, zero, suc, ◌+◌, ◌-◌, ◌*◌, ◌/◌, ◌%◌, ◌≤◌, ◌<◌, Bool, true, List, [], ◌∷◌, ◌++◌, eqb, leb, length, get_or, drop}
+use Rattle.std.specs.List.{range_with_len}
 use Rattle.base.specs.Choice.{pick, both, either}
 use Rattle.base.specs.Record.{Entry, Rec, E, B, «V», X, same}
 use Rattle.trace.specs.Rules.{Past, vs}
@@ -96,3 +97,7 @@ latest_of w e (suc i) = pick (of_epoch w i e) (suc i) (latest_of w e i)
 -- is record j a B of the transaction of record i?
 unfoldable pub submits : List ℕ → ℕ → ℕ → Bool
 submits w i j = both (eqb (kind_of w j) 2) (same (entry_at w i) (entry_at w j))
+
+-- the records before record i, those from record `seen` on first
+abbrev pub road : ℕ → ℕ → List ℕ
+road i seen = range_with_len seen (i - seen) ++ range_with_len 0 seen

@@ -1,7 +1,7 @@
 // Looking back in the trace.
-ghost use Rattle.std.specs.Prelude.{◌≡◌, map, ◌≤◌, length};
+ghost use Rattle.std.specs.Prelude.{◌≡◌, map, ◌≤◌, find, length};
 ghost use Rattle.trace.specs.Fold.{mem};
-ghost use Rattle.trace.specs.Words.{Within, Marked, entry_at, submits};
+ghost use Rattle.trace.specs.Words.{Within, Marked, entry_at, submits, road};
 ghost use Rattle.trace.specs.Step.{Source};
 
 use crate::words::{Kind, Record};
@@ -14,10 +14,11 @@ fn submits(r: Record, b: Record) -> bool
     b.kind() == Some(Kind::B) && r.same(b)
 }
 
-// A B before record r of its transaction, looked for from record `seen` on and then from the beginning.
+// The first B before record r of its transaction, looked for from record `seen` on and then from the beginning.
 pub fn source(r: Record, seen: usize) -> Option<usize>
     requires { seen ≤ r.i }
-    ensures { Source r.entry.recs.now r.entry.i result }
+    ensures any { Source r.entry.recs.now r.entry.i result }
+    ensures first { result ≡ find (submits r.entry.recs.now r.entry.i) (road r.entry.i seen) }
 {
     (seen..r.i)
         .chain(0..seen)

@@ -13,7 +13,7 @@ returns-in_err-ok_or c =
     let p = err_from_is_err_and c.from_residual.result c.from_residual.ensures.1 in
     let v = rw c.in_err-ok_or.ensures.ok_part at c.in_err-ok_or.ensures.value in
     let q : ◌≡◌ {A = Rule} c.in_err-ok_or.field-0.0 EarlierB = cc in
-    rw (p.1, p.2, q) (inside-three _ _ _ _ _ (rw (c.at.ensures.0, c.at.ensures.1) at c.same.ensures) c.if-same.false (rw c.in_err-ok_or.ensures.ok_part at c.source.ensures))
+    rw (p.1, p.2, q) (inside-three _ _ _ _ _ (rw (c.at.ensures.0, c.at.ensures.1) at c.same.ensures) c.if-same.false (rw c.in_err-ok_or.ensures.ok_part at c.source.ensures.any))
 
 pub returns : goal.returns
-returns c = let s = rw c.in_ok-ok_or.ensures.ok_part at c.source.ensures in inside-four _ _ _ _ _ (rw (c.at.ensures.0, c.at.ensures.1) at c.same.ensures) c.if-same.false s.1
+returns c = let s = rw c.in_ok-ok_or.ensures.ok_part at c.source.ensures.any in inside-four _ _ _ _ _ (rw (c.at.ensures.0, c.at.ensures.1) at c.same.ensures) c.if-same.false s.1
