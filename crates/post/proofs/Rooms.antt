@@ -96,11 +96,11 @@ fits-roomy z depth r i empties one two rest a b w = all_same z.n _ _ (λ t l.
 
 -- ---- for the code
 
-hit-in : (i : ℕ) (q : Set) (t : ℕ) → t ≢ i → q t ≡ true → hit i q t ≡ 1
+pub hit-in : (i : ℕ) (q : Set) (t : ℕ) → t ≢ i → q t ≡ true → hit i q t ≡ 1
 unfolding hit pick both
 hit-in i q t n e = rw (e, ne_eqb t i n)
 
-hit-out : (i : ℕ) (q : Set) (t : ℕ) → q t ≡ false → hit i q t ≡ 0
+pub hit-out : (i : ℕ) (q : Set) (t : ℕ) → q t ≡ false → hit i q t ≡ 0
 unfolding hit pick both
 hit-out i q t e = rw e
 
